@@ -18,8 +18,8 @@ use Rattle.descriptor_records.specs.declared.message.ExtensionRange.{ExtensionRa
 use Rattle.descriptor_records.specs.declared.options.Options.{Options}
 use Rattle.descriptor_records.specs.declared.service.MethodDescriptorProto.{MethodDescriptorProto}
 use Rattle.descriptor_records.specs.declared.service.ServiceDescriptorProto.{ServiceDescriptorProto}
-use Rattle.reflect_codec.specs.declared.options.OptionsOf.{OptionsOf}
-use Rattle.reflect_codec.specs.declared.options.OptionsOf.TheVariants as of
+use Rattle.option_parts.specs.declared.option_scope.OptionScope.{OptionScope}
+use Rattle.option_parts.specs.declared.option_scope.OptionScope.TheVariants as scopes
 use Rattle.reflect_declarations.specs.Declarations.{Declaration, each, entry, file_declarations, one_enum, one_extension, one_field, one_method, one_oneof, one_service, one_value, past_message, past_tree, past_trees, tree_declarations, trees_declarations, trees_of}
 use Rattle.reflect_declarations.specs.Tree.{Message, message, Messages, no_messages, more_messages, text_of, tree_of}
 use Rattle.reflect_declarations.specs.Tree as tree
@@ -29,11 +29,10 @@ use Rattle.reflect_scope.specs.Means.{join}
 use Rattle.linked_view.proofs.Completes.{all_mapped}
 use Rattle.linked_view.proofs.Walked.{content_is, tree_content, trees_content}
 use Rattle.plain_records.specs.PlainRecords.{ArePlainMessages, ArePlainOptions, IsInside, IsPlainEnum, IsPlainEnumValue, IsPlainExtensionRange, IsPlainField, IsPlainFile, IsPlainMessage, IsPlainMethod, IsPlainOneof, IsPlainService}
-use Rattle.settled_options.specs.Kinds.{kind_of}
 use Rattle.settled_records.proofs.Put.{Own, SuitsEnum, SuitsFile, SuitsMessage, SuitsPart, SuitsPartOfFile, SuitsService}
 
 -- ---- lists
-all_flat : {A B : Type 0} (P : B → Type 0) (f : A → List B) (xs : List A) → AllByRecursion (λ x. AllByRecursion P (f x)) xs → AllByRecursion P (flat_map f xs)
+pub all_flat : {A B : Type 0} (P : B → Type 0) (f : A → List B) (xs : List A) → AllByRecursion (λ x. AllByRecursion P (f x)) xs → AllByRecursion P (flat_map f xs)
 all_flat P f [] all = tt
 all_flat P f (x ∷ xs) all = subst (AllByRecursion P) (sym (flat_map-cons f x xs)) (all_append P (f x) (flat_map f xs) all.0 (all_flat P f xs all.1))
 
@@ -55,21 +54,21 @@ pub types_are : (ms : List DescriptorProto) → content.messages_of (map message
 types_are [] = refl
 types_are (m ∷ ms) = λ i. content.more_messages (content_is m i) (types_are ms i)
 
-module _ (Says : OptionsOf → OptionsContent → Type 0) (levels : ℕ) where
+module _ (Says : OptionScope → OptionsContent → Type 0) (levels : ℕ) where
   -- where options are, a level is left for them
-  room : (kind : OptionsOf) (l : ℕ) (options : Option Options) → ArePlainOptions Says kind l (option_map options_view options) → (r : Options) → options ≡ Some r → 0 < l
-  room kind l None plain r e = absurd (cc e)
-  room kind l (Some x) plain r e = plain.0
+  room : (own : OptionScope) (l : ℕ) (options : Option Options) → ArePlainOptions Says own l (option_map options_view options) → (r : Options) → options ≡ Some r → 0 < l
+  room own l None plain r e = absurd (cc e)
+  room own l (Some x) plain r e = plain.0
 
   abbrev pub Suited : Entity → Type 0
-  Suited c = (r : Options) → c.options ≡ Some r → (o : OptionsContent) → Says (kind_of c.scope) o → SuitsFile Says levels c.path o
+  Suited c = (r : Options) → c.options ≡ Some r → (o : OptionsContent) → Says c.scope o → SuitsFile Says levels c.path o
 
   abbrev Suit : Declaration → Type 0
   Suit d = AllByRecursion Suited (entities d)
 
   -- ---- what a path leads to
-  abbrev ToOwn : OptionsOf → List ℤ → ℕ → Type 0
-  ToOwn kind path l = (o : OptionsContent) → (0 < l) × Says kind o → SuitsFile Says levels path o
+  abbrev ToOwn : OptionScope → List ℤ → ℕ → Type 0
+  ToOwn own path l = (o : OptionsContent) → (0 < l) × Says own o → SuitsFile Says levels path o
 
   abbrev ToEnum : List ℤ → ℕ → Type 0
   ToEnum path l = (rest : List ℤ) (o : OptionsContent) → SuitsEnum Says l rest o → SuitsFile Says levels (path ++ rest) o
@@ -91,12 +90,12 @@ module _ (Says : OptionsOf → OptionsContent → Type 0) (levels : ℕ) where
   value_suits : (path : List ℤ) (scope : List ℕ) (file parent l : ℕ) → ToEnum path l → (k : ℕ) (v : EnumValueDescriptorProto)
       → IsInside (IsPlainEnumValue Says) l (enum_value_view v) → AllByRecursion Suit (one_value path scope file parent k v)
   value_suits path scope file parent l to k v plain =
-      (((λ r e o says. to (pos 2 ∷ pos k ∷ []) o (λ is. (room of.Other (l - 1) v.options plain.1.options r e, says))), tt), tt)
+      (((λ r e o says. to (pos 2 ∷ pos k ∷ []) o (λ is. (room scopes.EnumValue (l - 1) v.options plain.1.options r e, says))), tt), tt)
 
   enum_suits : (path : List ℤ) (tag : ℤ) (scope : List ℕ) (file : ℕ) (parent : Option ℕ) (first l : ℕ) → ((k : ℕ) → ToEnum (entry path tag k) (l - 1))
       → (k : ℕ) (e : EnumDescriptorProto) → IsInside (IsPlainEnum Says) l (enum_view e) → AllByRecursion Suit (one_enum path tag scope file parent first k e)
   enum_suits path tag scope file parent first l to k x plain = (
-    ((λ r e o says. here (entry path tag k) o (to k [] o (room of.Enum (l - 1) x.options plain.1.options r e, says))), tt),
+    ((λ r e o says. here (entry path tag k) o (to k [] o (room scopes.Enum (l - 1) x.options plain.1.options r e, says))), tt),
     all_each (λ v. IsInside (IsPlainEnumValue Says) (l - 1) (enum_value_view v)) Suit (one_value (entry path tag k) scope file (first + k))
         (value_suits (entry path tag k) scope file (first + k) (l - 1) (to k)) 0 x.value.items
         (all_mapped enum_value_view (IsInside (IsPlainEnumValue Says) (l - 1)) x.value.items plain.1.value),
@@ -105,24 +104,24 @@ module _ (Says : OptionsOf → OptionsContent → Type 0) (levels : ℕ) where
   method_suits : (path : List ℤ) (scope : List ℕ) (file parent l : ℕ) → ToService path l → (k : ℕ) (m : MethodDescriptorProto)
       → IsInside (IsPlainMethod Says) l (method_view m) → AllByRecursion Suit (one_method path scope file parent k m)
   method_suits path scope file parent l to k m plain =
-      (((λ r e o says. to (pos 2 ∷ pos k ∷ []) o (λ is. (room of.Other (l - 1) m.options plain.1 r e, says))), tt), tt)
+      (((λ r e o says. to (pos 2 ∷ pos k ∷ []) o (λ is. (room scopes.Method (l - 1) m.options plain.1 r e, says))), tt), tt)
 
   service_suits : (scope : List ℕ) (file first l : ℕ) → ((k : ℕ) → ToService (entry [] (pos 6) k) (l - 1))
       → (k : ℕ) (s : ServiceDescriptorProto) → IsInside (IsPlainService Says) l (service_view s) → AllByRecursion Suit (one_service scope file first k s)
   service_suits scope file first l to k x plain = (
-    ((λ r e o says. to k [] o (room of.Other (l - 1) x.options plain.1.options r e, says)), tt),
+    ((λ r e o says. to k [] o (room scopes.Service (l - 1) x.options plain.1.options r e, says)), tt),
     all_each (λ m. IsInside (IsPlainMethod Says) (l - 1) (method_view m)) Suit (one_method (entry [] (pos 6) k) (join scope (text_of x.name)) file (first + k))
         (method_suits (entry [] (pos 6) k) (join scope (text_of x.name)) file (first + k) (l - 1) (to k)) 0 x.method.items
         (all_mapped method_view (IsInside (IsPlainMethod Says) (l - 1)) x.method.items plain.1.method),
   )
 
-  extension_suits : (path : List ℤ) (tag : ℤ) (scope : List ℕ) (file : ℕ) (parent : Option ℕ) (first l : ℕ) → ((k : ℕ) → ToOwn of.Field (entry path tag k) (l - 1))
+  extension_suits : (path : List ℤ) (tag : ℤ) (scope : List ℕ) (file : ℕ) (parent : Option ℕ) (first l : ℕ) → ((k : ℕ) → ToOwn scopes.Field (entry path tag k) (l - 1))
       → (k : ℕ) (x : FieldDescriptorProto) → IsInside (IsPlainField Says) l (field_view x) → AllByRecursion Suit (one_extension path tag scope file parent first k x)
   extension_suits path tag scope file parent first l to k x plain =
-      (((λ r e o says. to k o (room of.Field (l - 1) x.options plain.1.options r e, says)), tt), tt)
+      (((λ r e o says. to k o (room scopes.Field (l - 1) x.options plain.1.options r e, says)), tt), tt)
 
   -- ---- a part of a message, by the number of its list
-  in_field : (l : ℕ) (rest : List ℤ) (o : OptionsContent) (N : Type 0) → Own Says of.Field (l - 1) rest o → SuitsPart Says l (pos 2) rest o N
+  in_field : (l : ℕ) (rest : List ℤ) (o : OptionsContent) (N : Type 0) → Own Says scopes.Field (l - 1) rest o → SuitsPart Says l (pos 2) rest o N
   in_field l rest o N suits = record {
     field = λ is. suits;
     extension = λ is. absurd (apart 2 6 refl is);
@@ -132,7 +131,7 @@ module _ (Says : OptionsOf → OptionsContent → Type 0) (levels : ℕ) where
     oneof = λ is. absurd (apart 2 8 refl is);
   }
 
-  in_extension : (l : ℕ) (rest : List ℤ) (o : OptionsContent) (N : Type 0) → Own Says of.Field (l - 1) rest o → SuitsPart Says l (pos 6) rest o N
+  in_extension : (l : ℕ) (rest : List ℤ) (o : OptionsContent) (N : Type 0) → Own Says scopes.Field (l - 1) rest o → SuitsPart Says l (pos 6) rest o N
   in_extension l rest o N suits = record {
     field = λ is. absurd (apart 6 2 refl is);
     extension = λ is. suits;
@@ -162,7 +161,7 @@ module _ (Says : OptionsOf → OptionsContent → Type 0) (levels : ℕ) where
     oneof = λ is. absurd (apart 4 8 refl is);
   }
 
-  in_range : (l : ℕ) (rest : List ℤ) (o : OptionsContent) (N : Type 0) → Own Says of.Other (l - 1) rest o → SuitsPart Says l (pos 5) rest o N
+  in_range : (l : ℕ) (rest : List ℤ) (o : OptionsContent) (N : Type 0) → Own Says scopes.ExtensionRange (l - 1) rest o → SuitsPart Says l (pos 5) rest o N
   in_range l rest o N suits = record {
     field = λ is. absurd (apart 5 2 refl is);
     extension = λ is. absurd (apart 5 6 refl is);
@@ -172,7 +171,7 @@ module _ (Says : OptionsOf → OptionsContent → Type 0) (levels : ℕ) where
     oneof = λ is. absurd (apart 5 8 refl is);
   }
 
-  in_oneof : (l : ℕ) (rest : List ℤ) (o : OptionsContent) (N : Type 0) → Own Says of.Other (l - 1) rest o → SuitsPart Says l (pos 8) rest o N
+  in_oneof : (l : ℕ) (rest : List ℤ) (o : OptionsContent) (N : Type 0) → Own Says scopes.Oneof (l - 1) rest o → SuitsPart Says l (pos 8) rest o N
   in_oneof l rest o N suits = record {
     field = λ is. absurd (apart 8 2 refl is);
     extension = λ is. absurd (apart 8 6 refl is);
@@ -187,21 +186,21 @@ module _ (Says : OptionsOf → OptionsContent → Type 0) (levels : ℕ) where
       → AllByRecursion (IsInside (IsPlainField Says) (l - 1)) (map field_view fs) → AllByRecursion Suit (each (one_field path scope file parent) 0 fs)
   fields_suit path scope file parent l to fs plain =
       all_each (λ f. IsInside (IsPlainField Says) (l - 1) (field_view f)) Suit (one_field path scope file parent)
-      (λ k f own. (((λ r e o says. to (pos 2 ∷ pos k ∷ []) o (in_field (l - 1) [] o (SuitsMessage Says (l - 1) [] o) (room of.Field (l - 1 - 1) f.options own.1.options r e, says))), tt), tt))
+      (λ k f own. (((λ r e o says. to (pos 2 ∷ pos k ∷ []) o (in_field (l - 1) [] o (SuitsMessage Says (l - 1) [] o) (room scopes.Field (l - 1 - 1) f.options own.1.options r e, says))), tt), tt))
       0 fs (all_mapped field_view (IsInside (IsPlainField Says) (l - 1)) fs plain)
 
   oneofs_suit : (path : List ℤ) (scope : List ℕ) (file parent l : ℕ) → ToMessage path l → (os : List OneofDescriptorProto)
       → AllByRecursion (IsInside (IsPlainOneof Says) (l - 1)) (map oneof_view os) → AllByRecursion Suit (each (one_oneof path scope file parent) 0 os)
   oneofs_suit path scope file parent l to os plain =
       all_each (λ x. IsInside (IsPlainOneof Says) (l - 1) (oneof_view x)) Suit (one_oneof path scope file parent)
-      (λ k x own. (((λ r e o says. to (pos 8 ∷ pos k ∷ []) o (in_oneof (l - 1) [] o (SuitsMessage Says (l - 1) [] o) (room of.Other (l - 1 - 1) x.options own.1 r e, says))), tt), tt))
+      (λ k x own. (((λ r e o says. to (pos 8 ∷ pos k ∷ []) o (in_oneof (l - 1) [] o (SuitsMessage Says (l - 1) [] o) (room scopes.Oneof (l - 1 - 1) x.options own.1 r e, says))), tt), tt))
       0 os (all_mapped oneof_view (IsInside (IsPlainOneof Says) (l - 1)) os plain)
 
   ranges_suit : (path : List ℤ) (scope : List ℕ) (file l : ℕ) → ToMessage path l → (rs : List ExtensionRange)
       → AllByRecursion (IsInside (IsPlainExtensionRange Says) (l - 1)) (map extension_range_view rs) → AllByRecursion Suited (each (range_at file path scope) 0 rs)
   ranges_suit path scope file l to rs plain =
       all_each (λ x. IsInside (IsPlainExtensionRange Says) (l - 1) (extension_range_view x)) Suited (range_at file path scope)
-      (λ k x own. ((λ r e o says. to (pos 5 ∷ pos k ∷ []) o (in_range (l - 1) [] o (SuitsMessage Says (l - 1) [] o) (room of.Other (l - 1 - 1) x.options own.1.options r e, says))), tt))
+      (λ k x own. ((λ r e o says. to (pos 5 ∷ pos k ∷ []) o (in_range (l - 1) [] o (SuitsMessage Says (l - 1) [] o) (room scopes.ExtensionRange (l - 1 - 1) x.options own.1.options r e, says))), tt))
       0 rs (all_mapped extension_range_view (IsInside (IsPlainExtensionRange Says) (l - 1)) rs plain)
 
   enums_suit : (path : List ℤ) (tag : ℤ) (scope : List ℕ) (file : ℕ) (parent : Option ℕ) (first l : ℕ) → ((k : ℕ) → ToEnum (entry path tag k) (l - 1)) → (es : List EnumDescriptorProto)
@@ -210,7 +209,7 @@ module _ (Says : OptionsOf → OptionsContent → Type 0) (levels : ℕ) where
       all_each (λ e. IsInside (IsPlainEnum Says) l (enum_view e)) Suit (one_enum path tag scope file parent first)
       (enum_suits path tag scope file parent first l to) 0 es (all_mapped enum_view (IsInside (IsPlainEnum Says) l) es plain)
 
-  extensions_suit : (path : List ℤ) (tag : ℤ) (scope : List ℕ) (file : ℕ) (parent : Option ℕ) (first l : ℕ) → ((k : ℕ) → ToOwn of.Field (entry path tag k) (l - 1)) → (xs : List FieldDescriptorProto)
+  extensions_suit : (path : List ℤ) (tag : ℤ) (scope : List ℕ) (file : ℕ) (parent : Option ℕ) (first l : ℕ) → ((k : ℕ) → ToOwn scopes.Field (entry path tag k) (l - 1)) → (xs : List FieldDescriptorProto)
       → AllByRecursion (IsInside (IsPlainField Says) l) (map field_view xs) → AllByRecursion Suit (each (one_extension path tag scope file parent first) 0 xs)
   extensions_suit path tag scope file parent first l to xs plain =
       all_each (λ x. IsInside (IsPlainField Says) l (field_view x)) Suit (one_extension path tag scope file parent first)
@@ -233,7 +232,7 @@ module _ (Says : OptionsOf → OptionsContent → Type 0) (levels : ℕ) where
         (λ k o suits. to (pos 6 ∷ pos k ∷ []) o (in_extension (l - 1) [] o (SuitsMessage Says (l - 1) [] o) suits)) own.extension parts.extensions_are in
         let oneofs = oneofs_suit path n file before.messages l to own.oneof_decl parts.oneofs_are in
         let ranges = ranges_suit path n file l to own.extension_range parts.ranges_are in (
-          ((λ r e o says. here path o (to [] o (room of.Message (l - 1) own.options parts.options_are r e, says))), ranges),
+          ((λ r e o says. here path o (to [] o (room scopes.Message (l - 1) own.options parts.options_are r e, says))), ranges),
           all_append Suit _ _ fields (all_append Suit _ _ inner (all_append Suit _ _ enums (all_append Suit _ _ others oneofs))),
         )
 
@@ -269,7 +268,7 @@ module _ (Says : OptionsOf → OptionsContent → Type 0) (levels : ℕ) where
     extension = λ is. absurd (apart 6 7 refl is);
   }
 
-  in_file_extension : (l : ℕ) (rest : List ℤ) (o : OptionsContent) → Own Says of.Field (l - 1) rest o → SuitsPartOfFile Says l (pos 7) rest o
+  in_file_extension : (l : ℕ) (rest : List ℤ) (o : OptionsContent) → Own Says scopes.Field (l - 1) rest o → SuitsPartOfFile Says l (pos 7) rest o
   in_file_extension l rest o suits = record {
     message = λ is. absurd (apart 7 4 refl is);
     enum = λ is. absurd (apart 7 5 refl is);
@@ -289,6 +288,6 @@ module _ (Says : OptionsOf → OptionsContent → Type 0) (levels : ℕ) where
       (all_mapped service_view (IsInside (IsPlainService Says) levels) f.service.items plain.service) in
       let others = extensions_suit [] (pos 7) scope file None behind.extensions levels (λ k o suits. in_file_extension levels [] o suits) f.extension.items plain.extension in
       all_flat Suited entities (file_declarations no_offsets file f) (
-        ((λ r e o says. (room of.Other levels f.options plain.options r e, says)), tt),
+        ((λ r e o says. (room scopes.File levels f.options plain.options r e, says)), tt),
         all_append Suit _ _ types (all_append Suit _ _ enums (all_append Suit _ _ services others)),
       )

@@ -25,7 +25,7 @@ use Rattle.plain_records.specs.PlainRecords.{ArePlainFiles, IsPlainFile}
 use Rattle.plain_records.specs.SaidOptions.{IsSettled, SaysAndIsSettled, SaysOrWaits}
 use Rattle.settled_records.proofs.AllOptions.{InFile, Keeps, Said, file_keeps}
 use Rattle.settled_records.proofs.OfEntities.{Meets, file_in}
-use Rattle.settled_records.proofs.PlainOptions.{file_of, file_to, settled}
+use Rattle.settled_records.proofs.PlainOptions.{file_of, file_to, said, settled}
 use Rattle.settled_records.proofs.PutOptions.{Puts, file_puts, path_keeps}
 use Rattle.settled_records.proofs.Settled.{pool_plain}
 
@@ -41,7 +41,7 @@ IsToCome (e ∷ es) file path = IsPutAt file path e ⊎ IsToCome es file path
 
 -- options are settled, or one of the edits replaces them
 abbrev Waits : List Edit → ℕ → Said
-Waits es file path o = IsSettled o ⊎ IsToCome es file path
+Waits es file scope path o = IsSettled o ⊎ IsToCome es file path
 
 -- what an edit puts is settled
 abbrev PutsSettled : Edit → Type 0
@@ -58,10 +58,10 @@ in_back [] es file path h = h
 in_back (e ∷ more) es file path h = inr (in_back more es file path h)
 
 waits_front : (es more : List Edit) (file : ℕ) → Keeps (Waits es file) (Waits (es ++ more) file)
-waits_front es more file path o was = elim was [ inl done ↦ inl done | inr h ↦ inr (in_front es more file path h) ]
+waits_front es more file scope path o was = elim was [ inl done ↦ inl done | inr h ↦ inr (in_front es more file path h) ]
 
 waits_back : (more es : List Edit) (file : ℕ) → Keeps (Waits es file) (Waits (more ++ es) file)
-waits_back more es file path o was = elim was [ inl done ↦ inl done | inr h ↦ inr (in_back more es file path h) ]
+waits_back more es file scope path o was = elim was [ inl done ↦ inl done | inr h ↦ inr (in_back more es file path h) ]
 
 -- ---- files, the first of which has this place
 abbrev FilesWait : List Edit → ℕ → List FileContent → Type 0
@@ -84,15 +84,15 @@ module _ (e : Edit) (es : List Edit) (file : ℕ) (at : List ℤ) (new : Options
     (only : (k : ℕ) (path : List ℤ) → IsPutAt k path e → (file ≡ k) × (at ≡ path)) where
   puts_here : Puts new (Waits (e ∷ es) file) (Waits es file) at
   puts_here = record {
-    fresh = λ path. inl is_settled;
-    others = λ path o was. elim was [
+    fresh = λ scope path. inl is_settled;
+    others = λ scope path o was. elim was [
       | inl done ↦ inr (inl done)
       | inr h ↦ elim h [ inl here ↦ inl (sym (only file path here).1) | inr there ↦ inr (inr there) ]
     ];
   }
 
   elsewhere : (k : ℕ) → (file ≡ k → ⊥) → Keeps (Waits (e ∷ es) k) (Waits es k)
-  elsewhere k other path o was = elim was [
+  elsewhere k other scope path o was = elim was [
     | inl done ↦ inl done
     | inr h ↦ elim h [ inl here ↦ absurd (other (only k path here).0) | inr there ↦ inr there ]
   ]
@@ -112,7 +112,7 @@ one_edit (edits.Options file path options) es fs done wait =
     put_in_file (edits.Options file path options) es file path.items (options_view options) done (λ k at is. is) file 0 (omega arith) fs wait
 one_edit (edits.Location file place path) es fs done wait =
     file_changes es (path_put place path.items) (λ Q f all. path_keeps Q place path.items f all) file 0 fs
-    (files_keep (edits.Location file place path ∷ es) es 0 (λ j far at o was. elim was [ inl is ↦ inl is | inr h ↦ elim h [ inl here ↦ absurd here | inr there ↦ inr there ] ]) fs wait)
+    (files_keep (edits.Location file place path ∷ es) es 0 (λ j far scope at o was. elim was [ inl is ↦ inl is | inr h ↦ elim h [ inl here ↦ absurd here | inr there ↦ inr there ] ]) fs wait)
 
 all_edits : (es : List Edit) (fs : List FileContent) → AllByRecursion PutsSettled es → FilesWait es 0 fs → FilesWait [] 0 (fold edited fs es)
 all_edits [] fs done wait = wait
@@ -122,7 +122,7 @@ all_edits (e ∷ es) fs done wait = all_edits es (edited fs e) done.1 (one_edit 
 files_done : (k : ℕ) (fs : List FileContent) → ArePlainFiles SaysOrWaits fs → FilesWait [] k fs → ArePlainFiles SaysAndIsSettled fs
 files_done k [] plain wait = tt
 files_done k (f ∷ fs) plain wait =
-    (file_to 99 f plain.0 (file_keeps (Waits [] k) settled (λ path o was. elim was [ inl is ↦ is | inr h ↦ absurd h ]) f wait.0), files_done (k + 1) fs plain.1 wait.1)
+    (file_to 99 f plain.0 (file_keeps (Waits [] k) settled (λ scope path o was. elim was [ inl is ↦ is | inr h ↦ absurd h ]) f wait.0), files_done (k + 1) fs plain.1 wait.1)
 
 -- ---- entities
 settles_to : (scope : OptionScope) (s : NameScope) (o : Options) (new : OptionsContent) (paths : List (List ℤ)) → Settles scope s o new paths → IsSettled new
@@ -146,7 +146,7 @@ module _ (pool : PoolType) where
 
   meets_keep : (es more : List Edit) → ((file : ℕ) → Keeps (Waits es file) (Waits more file)) → (cs : List Entity) → AllByRecursion (Meets (Waits es)) cs → AllByRecursion (Meets (Waits more)) cs
   meets_keep es more to [] all = tt
-  meets_keep es more to (c ∷ cs) all = ((λ r e. to c.file c.path (options_view r) (all.0 r e)), meets_keep es more to cs all.1)
+  meets_keep es more to (c ∷ cs) all = ((λ r e. to c.file c.scope c.path (options_view r) (all.0 r e)), meets_keep es more to cs all.1)
 
   entities_wait : (cs : List Entity) (es : List Edit) (ms : List Move) → SettlesAll pool cs es ms → AllByRecursion (Meets (Waits es)) cs × AllByRecursion PutsSettled es
   entities_wait [] es ms (none, still) = (tt, subst (AllByRecursion PutsSettled) (sym none) tt)
@@ -154,7 +154,7 @@ module _ (pool : PoolType) where
       let one = entity_waits c own moved settles in
       let all = entities_wait cs rest more others in (
         subst (λ es. AllByRecursion (Meets (Waits es)) (c ∷ cs)) (sym is)
-            ((λ r e. waits_front own rest c.file c.path (options_view r) (one.0 r e)), meets_keep rest (own ++ rest) (waits_back own rest) cs all.0),
+            ((λ r e. waits_front own rest c.file c.scope c.path (options_view r) (one.0 r e)), meets_keep rest (own ++ rest) (waits_back own rest) cs all.0),
         subst (AllByRecursion PutsSettled) (sym is) (all_append PutsSettled own rest one.1 all.1),
       )
 
@@ -233,8 +233,8 @@ pool_done pool new first sound many plain before settles =
   where
     by : (k : ℕ) (f : FileDescriptorProto) → slice_get pool.records k ≡ Some f → (b : Bool) → ltb k first ≡ b → InFile (Waits settles.edits k) (file_view f)
     by k f there true e =
-        file_keeps settled (Waits settles.edits k) (λ path o is. inl is) (file_view f)
-        (file_of 99 (file_view f) (one_of_first (IsPlainFile SaysAndIsSettled 99) first k pool.records f before (ltb-true k first e) there))
+        file_keeps (said SaysAndIsSettled) (Waits settles.edits k) (λ scope path o is. inl is.1) (file_view f)
+        (file_of SaysAndIsSettled 99 (file_view f) (one_of_first (IsPlainFile SaysAndIsSettled 99) first k pool.records f before (ltb-true k first e) there))
     by k f there false e =
         let from = ltb-false k first e in
         let inside = slice_get_within pool.records k f there in

@@ -1,8 +1,12 @@
 pub mod AllOptions
+pub mod Edits
 pub mod Entities
+pub mod InEntities
 pub mod Left
 pub mod OfEntities
 pub mod PlainOptions
 pub mod Put
 pub mod PutOptions
 pub mod Settled
+pub mod Standing
+pub mod Themselves

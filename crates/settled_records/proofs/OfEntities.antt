@@ -14,6 +14,8 @@ use Rattle.descriptor_records.specs.declared.message.ExtensionRange.{ExtensionRa
 use Rattle.descriptor_records.specs.declared.options.Options.{Options}
 use Rattle.descriptor_records.specs.declared.service.MethodDescriptorProto.{MethodDescriptorProto}
 use Rattle.descriptor_records.specs.declared.service.ServiceDescriptorProto.{ServiceDescriptorProto}
+use Rattle.option_parts.specs.declared.option_scope.OptionScope.{OptionScope}
+use Rattle.option_parts.specs.declared.option_scope.OptionScope.TheVariants as scopes
 use Rattle.reflect_declarations.specs.Declarations.{Declaration, each, entry, file_declarations, one_enum, one_extension, one_field, one_method, one_oneof, one_service, one_value, past_message, past_tree, past_trees, tree_declarations, trees_declarations, trees_of}
 use Rattle.reflect_declarations.specs.Tree.{Message, message, Messages, no_messages, more_messages, text_of}
 use Rattle.reflect_declarations.specs.declared.offsets.Offsets.{Offsets}
@@ -39,47 +41,48 @@ each_in P one view In Q number h k (x ∷ xs) all =
 -- options of an entity, by its file and its path
 module _ (W : ℕ → Said) where
   abbrev pub Meets : Entity → Type 0
-  Meets c = (r : Options) → c.options ≡ Some r → W c.file c.path (options_view r)
+  Meets c = (r : Options) → c.options ≡ Some r → W c.file c.scope c.path (options_view r)
 
-  abbrev Meet : Declaration → Type 0
+  abbrev pub Meet : Declaration → Type 0
   Meet d = AllByRecursion Meets (entities d)
 
 module _ (W : ℕ → Said) (file : ℕ) where
   -- what a path leads to
   abbrev Leads : List ℤ → Said → Type 0
-  Leads path Q = (rest : List ℤ) (o : OptionsContent) → W file (path ++ rest) o → Q rest o
+  Leads path Q = (scope : OptionScope) (rest : List ℤ) (o : OptionsContent) → W file scope (path ++ rest) o → Q scope rest o
 
   further : (path : List ℤ) (Q : Said) (number : ℤ) (k : ℕ) → Leads path Q → Leads (entry path number k) (below Q number k)
-  further path Q number k leads rest o w = leads (number ∷ pos k ∷ rest) o (subst (λ p. W file p o) (append_assoc path (number ∷ pos k ∷ []) rest) w)
+  further path Q number k leads scope rest o w = leads scope (number ∷ pos k ∷ rest) o (subst (λ p. W file scope p o) (append_assoc path (number ∷ pos k ∷ []) rest) w)
 
-  own_in : (path : List ℤ) (Q : Said) → Leads path Q → (x : Option Options) → ((r : Options) → x ≡ Some r → W file path (options_view r)) → InOwn Q (option_map options_view x)
-  own_in path Q leads None all = tt
-  own_in path Q leads (Some r) all = leads [] (options_view r) (subst (λ p. W file p (options_view r)) (sym (append-nil path)) (all r refl))
+  own_in : (scope : OptionScope) (path : List ℤ) (Q : Said) → Leads path Q → (x : Option Options) → ((r : Options) → x ≡ Some r → W file scope path (options_view r))
+      → InOwn scope Q (option_map options_view x)
+  own_in scope path Q leads None all = tt
+  own_in scope path Q leads (Some r) all = leads scope [] (options_view r) (subst (λ p. W file scope p (options_view r)) (sym (append-nil path)) (all r refl))
 
   -- ---- enums and services
   value_in : (path : List ℤ) (scope : List ℕ) (parent : ℕ) (Q : Said) → Leads path Q → (k : ℕ) (v : EnumValueDescriptorProto)
       → AllByRecursion (Meet W) (one_value path scope file parent k v) → InValue (below Q (pos 2) k) (enum_value_view v)
-  value_in path scope parent Q leads k v all = own_in (entry path (pos 2) k) (below Q (pos 2) k) (further path Q (pos 2) k leads) v.options all.0.0
+  value_in path scope parent Q leads k v all = own_in scopes.EnumValue (entry path (pos 2) k) (below Q (pos 2) k) (further path Q (pos 2) k leads) v.options all.0.0
 
   enum_in : (path : List ℤ) (number : ℤ) (scope : List ℕ) (parent : Option ℕ) (first : ℕ) (Q : Said) → Leads path Q → (k : ℕ) (e : EnumDescriptorProto)
       → AllByRecursion (Meet W) (one_enum path number scope file parent first k e) → InEnum (below Q number k) (enum_view e)
   enum_in path number scope parent first Q leads k e all =
       let here = further path Q number k leads in (
-        own_in (entry path number k) (below Q number k) here e.options all.0.0,
+        own_in scopes.Enum (entry path number k) (below Q number k) here e.options all.0.0,
         each_in (Meet W) (one_value (entry path number k) scope file (first + k)) enum_value_view InValue (below Q number k) (pos 2)
             (value_in (entry path number k) scope (first + k) (below Q number k) here) 0 e.value.items all.1,
       )
 
   method_in : (path : List ℤ) (scope : List ℕ) (parent : ℕ) (Q : Said) → Leads path Q → (k : ℕ) (m : MethodDescriptorProto)
       → AllByRecursion (Meet W) (one_method path scope file parent k m) → InMethod (below Q (pos 2) k) (method_view m)
-  method_in path scope parent Q leads k m all = own_in (entry path (pos 2) k) (below Q (pos 2) k) (further path Q (pos 2) k leads) m.options all.0.0
+  method_in path scope parent Q leads k m all = own_in scopes.Method (entry path (pos 2) k) (below Q (pos 2) k) (further path Q (pos 2) k leads) m.options all.0.0
 
   service_in : (scope : List ℕ) (first : ℕ) (Q : Said) → Leads [] Q → (k : ℕ) (s : ServiceDescriptorProto)
       → AllByRecursion (Meet W) (one_service scope file first k s) → InService (below Q (pos 6) k) (service_view s)
   service_in scope first Q leads k s all =
       let here = further [] Q (pos 6) k leads in
       let name = join scope (text_of s.name) in (
-        own_in (entry [] (pos 6) k) (below Q (pos 6) k) here s.options all.0.0,
+        own_in scopes.Service (entry [] (pos 6) k) (below Q (pos 6) k) here s.options all.0.0,
         each_in (Meet W) (one_method (entry [] (pos 6) k) name file (first + k)) method_view InMethod (below Q (pos 6) k) (pos 2)
             (method_in (entry [] (pos 6) k) name (first + k) (below Q (pos 6) k) here) 0 s.method.items all.1,
       )
@@ -87,22 +90,22 @@ module _ (W : ℕ → Said) (file : ℕ) where
   -- ---- parts of messages
   extension_in : (path : List ℤ) (number : ℤ) (scope : List ℕ) (parent : Option ℕ) (first : ℕ) (Q : Said) → Leads path Q → (k : ℕ) (x : FieldDescriptorProto)
       → AllByRecursion (Meet W) (one_extension path number scope file parent first k x) → InField (below Q number k) (field_view x)
-  extension_in path number scope parent first Q leads k x all = own_in (entry path number k) (below Q number k) (further path Q number k leads) x.options all.0.0
+  extension_in path number scope parent first Q leads k x all = own_in scopes.Field (entry path number k) (below Q number k) (further path Q number k leads) x.options all.0.0
 
   field_in : (path : List ℤ) (scope : List ℕ) (parent : ℕ) (Q : Said) → Leads path Q → (k : ℕ) (f : FieldDescriptorProto)
       → AllByRecursion (Meet W) (one_field path scope file parent k f) → InField (below Q (pos 2) k) (field_view f)
-  field_in path scope parent Q leads k f all = own_in (entry path (pos 2) k) (below Q (pos 2) k) (further path Q (pos 2) k leads) f.options all.0.0
+  field_in path scope parent Q leads k f all = own_in scopes.Field (entry path (pos 2) k) (below Q (pos 2) k) (further path Q (pos 2) k leads) f.options all.0.0
 
   oneof_in : (path : List ℤ) (scope : List ℕ) (parent : ℕ) (Q : Said) → Leads path Q → (k : ℕ) (x : OneofDescriptorProto)
       → AllByRecursion (Meet W) (one_oneof path scope file parent k x) → InOneof (below Q (pos 8) k) (oneof_view x)
-  oneof_in path scope parent Q leads k x all = own_in (entry path (pos 8) k) (below Q (pos 8) k) (further path Q (pos 8) k leads) x.options all.0.0
+  oneof_in path scope parent Q leads k x all = own_in scopes.Oneof (entry path (pos 8) k) (below Q (pos 8) k) (further path Q (pos 8) k leads) x.options all.0.0
 
   ranges_in : (path : List ℤ) (name : List ℕ) (Q : Said) → Leads path Q → (k : ℕ) (rs : List ExtensionRange)
       → AllByRecursion (Meets W) (each (range_at file path name) k rs) → InList InRange Q (pos 5) k (map extension_range_view rs)
   ranges_in path name Q leads k [] all = tt
   ranges_in path name Q leads k (r ∷ rs) all =
       let parts = all_split (Meets W) (range_at file path name k r) (each (range_at file path name) (k + 1) rs) all in (
-        own_in (entry path (pos 5) k) (below Q (pos 5) k) (further path Q (pos 5) k leads) r.options parts.0.0,
+        own_in scopes.ExtensionRange (entry path (pos 5) k) (below Q (pos 5) k) (further path Q (pos 5) k leads) r.options parts.0.0,
         ranges_in path name Q leads (k + 1) rs parts.1,
       )
 
@@ -125,7 +128,7 @@ module _ (W : ℕ → Said) (file : ℕ) where
             enum = each_in (Meet W) (one_enum path (pos 4) n file up behind.enums) enum_view InEnum Q (pos 4) (enum_in path (pos 4) n up behind.enums Q leads) 0 own.enum_type c.0;
             range = ranges_in path n Q leads 0 own.extension_range all.0.1;
             oneof = each_in (Meet W) (one_oneof path n file before.messages) oneof_view InOneof Q (pos 8) (oneof_in path n before.messages Q leads) 0 own.oneof_decl d.1;
-            own = own_in path Q leads own.options all.0.0;
+            own = own_in scopes.Message path Q leads own.options all.0.0;
           },
           trees_in path (pos 3) n up 0 (past_message before) Q leads nested b.0,
         )
@@ -145,7 +148,7 @@ module _ (W : ℕ → Said) (file : ℕ) where
       let all = flat_all (Meets W) entities (file_declarations no_offsets file f) met in
       let scope = text_of f.package in
       let behind = past_trees no_offsets (trees_of f) in
-      let leads : Leads [] (W file) = λ rest o w. w in
+      let leads : Leads [] (W file) = λ scope rest o w. w in
       let a = all_split (Meet W) (trees_declarations [] (pos 4) scope file None 0 no_offsets (trees_of f)) _ all.1 in
       let b = all_split (Meet W) (each (one_enum [] (pos 5) scope file None behind.enums) 0 f.enum_type.items) _ a.1 in
       let c = all_split (Meet W) (each (one_service scope file no_offsets.services) 0 f.service.items) _ b.1 in
@@ -158,5 +161,5 @@ module _ (W : ℕ → Said) (file : ℕ) where
             (service_in scope no_offsets.services (W file) leads) 0 f.service.items c.0;
         extension = each_in (Meet W) (one_extension [] (pos 7) scope file None behind.extensions) field_view InField (W file) (pos 7)
             (extension_in [] (pos 7) scope None behind.extensions (W file) leads) 0 f.extension.items c.1;
-        own = own_in [] (W file) leads f.options all.0.0;
+        own = own_in scopes.File [] (W file) leads f.options all.0.0;
       }

@@ -1,53 +1,53 @@
--- What edits put into plain records leaves them plain, where it is of the kind that its path leads
+-- What edits put into plain records leaves them plain, where it is of the scope that its path leads
 -- to, and of those levels.
 use Rattle.std.proofs.Common.{◌≡◌, ◌<◌, ◌-◌, ℕ, zero, suc, ℤ, pos, negsuc, Bool, true, false, cond, List, [], ◌∷◌, Option, Some, None, option_map, refl}
 use Rattle.std.specs.List.{AllByRecursion}
 use Rattle.std.specs.Ordering.{int_eq}
 use Rattle.std.proofs.lemmas.Bool.Decides.{Decides-int_eq}
 use Rattle.descriptor_records.specs.Content.{EnumContent, EnumValueContent, ExtensionRangeContent, FieldContent, FileContent, LocationContent, MessageContent, message, MessageContents, more_messages, no_messages, messages_of, MethodContent, OneofContent, OptionsContent, ServiceContent}
-use Rattle.reflect_codec.specs.declared.options.OptionsOf.{OptionsOf}
-use Rattle.reflect_codec.specs.declared.options.OptionsOf.TheVariants as of
+use Rattle.option_parts.specs.declared.option_scope.OptionScope.{OptionScope}
+use Rattle.option_parts.specs.declared.option_scope.OptionScope.TheVariants as scopes
 use Rattle.reflect_growth.specs.Put.{enum_put, field_put, file_put, location_put, message_put, method_put, nested_at, oneof_put, own_put, path_put, put_in, put_nested, range_put, service_put, value_put, with_at}
 use Rattle.plain_records.specs.PlainRecords.{ArePlainLocations, ArePlainMessages, ArePlainOptions, FitsInt32, IfThere, IsInside, IsPlainEnum, IsPlainEnumValue, IsPlainExtensionRange, IsPlainField, IsPlainFile, IsPlainLocation, IsPlainMessage, IsPlainMethod, IsPlainOneof, IsPlainService}
 
 -- ---- options that may stand where a path leads
-abbrev pub Own : (OptionsOf → OptionsContent → Type 0) → OptionsOf → ℕ → List ℤ → OptionsContent → Type 0
-Own Says kind levels [] o = (0 < levels) × Says kind o
-Own Says kind levels (number ∷ rest) o = Unit {0}
+abbrev pub Own : (OptionScope → OptionsContent → Type 0) → OptionScope → ℕ → List ℤ → OptionsContent → Type 0
+Own Says scope levels [] o = (0 < levels) × Says scope o
+Own Says scope levels (number ∷ rest) o = Unit {0}
 
--- below a record, each kind of part by the number of its list
-abbrev pub SuitsEnum : (OptionsOf → OptionsContent → Type 0) → ℕ → List ℤ → OptionsContent → Type 0
-SuitsEnum Says levels [] o = (0 < levels) × Says of.Enum o
+-- below a record, each scope of part by the number of its list
+abbrev pub SuitsEnum : (OptionScope → OptionsContent → Type 0) → ℕ → List ℤ → OptionsContent → Type 0
+SuitsEnum Says levels [] o = (0 < levels) × Says scopes.Enum o
 SuitsEnum Says levels (number ∷ []) o = Unit {0}
-SuitsEnum Says levels (number ∷ place ∷ rest) o = number ≡ pos 2 → Own Says of.Other (levels - 1) rest o
+SuitsEnum Says levels (number ∷ place ∷ rest) o = number ≡ pos 2 → Own Says scopes.EnumValue (levels - 1) rest o
 
-abbrev pub SuitsService : (OptionsOf → OptionsContent → Type 0) → ℕ → List ℤ → OptionsContent → Type 0
-SuitsService Says levels [] o = (0 < levels) × Says of.Other o
+abbrev pub SuitsService : (OptionScope → OptionsContent → Type 0) → ℕ → List ℤ → OptionsContent → Type 0
+SuitsService Says levels [] o = (0 < levels) × Says scopes.Service o
 SuitsService Says levels (number ∷ []) o = Unit {0}
-SuitsService Says levels (number ∷ place ∷ rest) o = number ≡ pos 2 → Own Says of.Other (levels - 1) rest o
+SuitsService Says levels (number ∷ place ∷ rest) o = number ≡ pos 2 → Own Says scopes.Method (levels - 1) rest o
 
 -- in a message, in which so many levels are left
-pub record SuitsPart (Says : OptionsOf → OptionsContent → Type 0) (levels : ℕ) (number : ℤ) (rest : List ℤ) (o : OptionsContent) (Nested : Type 0) : Type 0 where
-  pub field : number ≡ pos 2 → Own Says of.Field (levels - 1) rest o
-  pub extension : number ≡ pos 6 → Own Says of.Field (levels - 1) rest o
+pub record SuitsPart (Says : OptionScope → OptionsContent → Type 0) (levels : ℕ) (number : ℤ) (rest : List ℤ) (o : OptionsContent) (Nested : Type 0) : Type 0 where
+  pub field : number ≡ pos 2 → Own Says scopes.Field (levels - 1) rest o
+  pub extension : number ≡ pos 6 → Own Says scopes.Field (levels - 1) rest o
   pub nested : number ≡ pos 3 → Nested
   pub enum : number ≡ pos 4 → SuitsEnum Says (levels - 1) rest o
-  pub range : number ≡ pos 5 → Own Says of.Other (levels - 1) rest o
-  pub oneof : number ≡ pos 8 → Own Says of.Other (levels - 1) rest o
+  pub range : number ≡ pos 5 → Own Says scopes.ExtensionRange (levels - 1) rest o
+  pub oneof : number ≡ pos 8 → Own Says scopes.Oneof (levels - 1) rest o
 
-abbrev pub SuitsMessage : (OptionsOf → OptionsContent → Type 0) → ℕ → List ℤ → OptionsContent → Type 0
-SuitsMessage Says levels [] o = (0 < levels - 1) × Says of.Message o
+abbrev pub SuitsMessage : (OptionScope → OptionsContent → Type 0) → ℕ → List ℤ → OptionsContent → Type 0
+SuitsMessage Says levels [] o = (0 < levels - 1) × Says scopes.Message o
 SuitsMessage Says levels (number ∷ []) o = Unit {0}
 SuitsMessage Says levels (number ∷ place ∷ rest) o = SuitsPart Says (levels - 1) number rest o (SuitsMessage Says (levels - 1) rest o)
 
-pub record SuitsPartOfFile (Says : OptionsOf → OptionsContent → Type 0) (levels : ℕ) (number : ℤ) (rest : List ℤ) (o : OptionsContent) : Type 0 where
+pub record SuitsPartOfFile (Says : OptionScope → OptionsContent → Type 0) (levels : ℕ) (number : ℤ) (rest : List ℤ) (o : OptionsContent) : Type 0 where
   pub message : number ≡ pos 4 → SuitsMessage Says levels rest o
   pub enum : number ≡ pos 5 → SuitsEnum Says (levels - 1) rest o
   pub service : number ≡ pos 6 → SuitsService Says (levels - 1) rest o
-  pub extension : number ≡ pos 7 → Own Says of.Field (levels - 1) rest o
+  pub extension : number ≡ pos 7 → Own Says scopes.Field (levels - 1) rest o
 
-abbrev pub SuitsFile : (OptionsOf → OptionsContent → Type 0) → ℕ → List ℤ → OptionsContent → Type 0
-SuitsFile Says levels [] o = (0 < levels) × Says of.Other o
+abbrev pub SuitsFile : (OptionScope → OptionsContent → Type 0) → ℕ → List ℤ → OptionsContent → Type 0
+SuitsFile Says levels [] o = (0 < levels) × Says scopes.File o
 SuitsFile Says levels (number ∷ []) o = Unit {0}
 SuitsFile Says levels (number ∷ place ∷ rest) o = SuitsPartOfFile Says levels number rest o
 
@@ -73,13 +73,13 @@ in_plain P f list number (pos k) keeps xs plain =
 in_plain P f list number (negsuc k) keeps xs plain = plain
 
 -- ---- records
-module _ (Says : OptionsOf → OptionsContent → Type 0) where
-  own_plain : (kind : OptionsOf) (levels : ℕ) (path : List ℤ) (o : OptionsContent) (was : Option OptionsContent)
-      → Own Says kind levels path o → ArePlainOptions Says kind levels was → ArePlainOptions Says kind levels (own_put path o was)
-  own_plain kind levels [] o was suits plain = suits
-  own_plain kind levels (number ∷ rest) o was suits plain = plain
+module _ (Says : OptionScope → OptionsContent → Type 0) where
+  own_plain : (scope : OptionScope) (levels : ℕ) (path : List ℤ) (o : OptionsContent) (was : Option OptionsContent)
+      → Own Says scope levels path o → ArePlainOptions Says scope levels was → ArePlainOptions Says scope levels (own_put path o was)
+  own_plain scope levels [] o was suits plain = suits
+  own_plain scope levels (number ∷ rest) o was suits plain = plain
 
-  field_plain : (levels : ℕ) (path : List ℤ) (o : OptionsContent) → Own Says of.Field (levels - 1) path o → (f : FieldContent)
+  field_plain : (levels : ℕ) (path : List ℤ) (o : OptionsContent) → Own Says scopes.Field (levels - 1) path o → (f : FieldContent)
       → IsInside (IsPlainField Says) levels f → IsInside (IsPlainField Says) levels (field_put path o f)
   field_plain levels path o suits f plain = (
     plain.0,
@@ -87,39 +87,39 @@ module _ (Says : OptionsOf → OptionsContent → Type 0) where
       number = plain.1.number;
       label = plain.1.label;
       field_type = plain.1.field_type;
-      options = own_plain of.Field (levels - 1) path o f.options suits plain.1.options;
+      options = own_plain scopes.Field (levels - 1) path o f.options suits plain.1.options;
       oneof_index = plain.1.oneof_index;
     },
   )
 
-  value_plain : (levels : ℕ) (path : List ℤ) (o : OptionsContent) → Own Says of.Other (levels - 1) path o → (v : EnumValueContent)
+  value_plain : (levels : ℕ) (path : List ℤ) (o : OptionsContent) → Own Says scopes.EnumValue (levels - 1) path o → (v : EnumValueContent)
       → IsInside (IsPlainEnumValue Says) levels v → IsInside (IsPlainEnumValue Says) levels (value_put path o v)
   value_plain levels path o suits v plain = (
     plain.0,
     record {
       number = plain.1.number;
-      options = own_plain of.Other (levels - 1) path o v.options suits plain.1.options;
+      options = own_plain scopes.EnumValue (levels - 1) path o v.options suits plain.1.options;
     },
   )
 
-  range_plain : (levels : ℕ) (path : List ℤ) (o : OptionsContent) → Own Says of.Other (levels - 1) path o → (r : ExtensionRangeContent)
+  range_plain : (levels : ℕ) (path : List ℤ) (o : OptionsContent) → Own Says scopes.ExtensionRange (levels - 1) path o → (r : ExtensionRangeContent)
       → IsInside (IsPlainExtensionRange Says) levels r → IsInside (IsPlainExtensionRange Says) levels (range_put path o r)
   range_plain levels path o suits r plain = (
     plain.0,
     record {
       start = plain.1.start;
       end = plain.1.end;
-      options = own_plain of.Other (levels - 1) path o r.options suits plain.1.options;
+      options = own_plain scopes.ExtensionRange (levels - 1) path o r.options suits plain.1.options;
     },
   )
 
-  oneof_plain : (levels : ℕ) (path : List ℤ) (o : OptionsContent) → Own Says of.Other (levels - 1) path o → (x : OneofContent)
+  oneof_plain : (levels : ℕ) (path : List ℤ) (o : OptionsContent) → Own Says scopes.Oneof (levels - 1) path o → (x : OneofContent)
       → IsInside (IsPlainOneof Says) levels x → IsInside (IsPlainOneof Says) levels (oneof_put path o x)
-  oneof_plain levels path o suits x plain = (plain.0, own_plain of.Other (levels - 1) path o x.options suits plain.1)
+  oneof_plain levels path o suits x plain = (plain.0, own_plain scopes.Oneof (levels - 1) path o x.options suits plain.1)
 
-  method_plain : (levels : ℕ) (path : List ℤ) (o : OptionsContent) → Own Says of.Other (levels - 1) path o → (m : MethodContent)
+  method_plain : (levels : ℕ) (path : List ℤ) (o : OptionsContent) → Own Says scopes.Method (levels - 1) path o → (m : MethodContent)
       → IsInside (IsPlainMethod Says) levels m → IsInside (IsPlainMethod Says) levels (method_put path o m)
-  method_plain levels path o suits m plain = (plain.0, own_plain of.Other (levels - 1) path o m.options suits plain.1)
+  method_plain levels path o suits m plain = (plain.0, own_plain scopes.Method (levels - 1) path o m.options suits plain.1)
 
   enum_plain : (levels : ℕ) (path : List ℤ) (o : OptionsContent) → SuitsEnum Says (levels - 1) path o → (e : EnumContent)
       → IsInside (IsPlainEnum Says) levels e → IsInside (IsPlainEnum Says) levels (enum_put path o e)

@@ -3,13 +3,15 @@ use Rattle.std.proofs.Common.{◌≡◌, ◌⊎◌, ◌+◌, ℕ, zero, suc, ℤ
 use Rattle.std.specs.Ordering.{int_eq}
 use Rattle.std.proofs.lemmas.Bool.Decides.{Decides-int_eq}
 use Rattle.descriptor_records.specs.Content.{EnumContent, EnumValueContent, ExtensionRangeContent, FieldContent, FileContent, MessageContent, message, MessageContents, more_messages, no_messages, MethodContent, OneofContent, OptionsContent, ServiceContent}
+use Rattle.option_parts.specs.declared.option_scope.OptionScope.{OptionScope}
+use Rattle.option_parts.specs.declared.option_scope.OptionScope.TheVariants as scopes
 use Rattle.reflect_growth.specs.Put.{enum_put, field_put, file_put, message_put, method_put, nested_at, oneof_put, own_put, path_put, put_in, put_nested, range_put, service_put, value_put, with_at}
 use Rattle.settled_records.proofs.AllOptions.{InEnum, InField, InFile, InList, InMessage, InMessages, InMethod, InOneof, InOwn, InRange, InService, InValue, Keeps, KeepsAll, KeepsFrom, Said, below, declared_keep, enum_keeps, field_keeps, list_keeps, message_keeps, messages_keep, method_keeps, oneof_keeps, own_keeps, parts_keep, range_keeps, service_keeps, value_keeps}
 
 -- options that are put at a path: these are so, and all others that were
 pub record Puts (new : OptionsContent) (Q R : Said) (at : List ℤ) : Type 0 where
-  pub fresh : (path : List ℤ) → R path new
-  pub others : (path : List ℤ) (o : OptionsContent) → Q path o → (path ≡ at) ⊎ R path o
+  pub fresh : (scope : OptionScope) (path : List ℤ) → R scope path new
+  pub others : (scope : OptionScope) (path : List ℤ) (o : OptionsContent) → Q scope path o → (path ≡ at) ⊎ R scope path o
 
 place_is : (number other : ℤ) (k j : ℕ) (path rest : List ℤ) → number ∷ pos k ∷ path ≡ other ∷ pos j ∷ rest → k ≡ j
 place_is number other k j path rest e = cc
@@ -23,18 +25,18 @@ rest_is number k path rest e = cc
 module _ (new : OptionsContent) where
   -- in an entry that the path does not lead to
   past : (Q R : Said) (at : List ℤ) → Puts new Q R at → (number : ℤ) (k : ℕ) → ((path : List ℤ) → number ∷ pos k ∷ path ≡ at → ⊥) → Keeps (below Q number k) (below R number k)
-  past Q R at puts number k misses path o was = elim (puts.others (number ∷ pos k ∷ path) o was) [ inl e ↦ absurd (misses path e) | inr is ↦ is ]
+  past Q R at puts number k misses scope path o was = elim (puts.others scope (number ∷ pos k ∷ path) o was) [ inl e ↦ absurd (misses path e) | inr is ↦ is ]
 
   -- in the entry that it leads to
   into : (Q R : Said) (number : ℤ) (k : ℕ) (rest : List ℤ) → Puts new Q R (number ∷ pos k ∷ rest) → Puts new (below Q number k) (below R number k) rest
   into Q R number k rest puts = record {
-    fresh = λ path. puts.fresh (number ∷ pos k ∷ path);
-    others = λ path o was. elim (puts.others (number ∷ pos k ∷ path) o was) [ inl e ↦ inl (rest_is number k path rest e) | inr is ↦ inr is ];
+    fresh = λ scope path. puts.fresh scope (number ∷ pos k ∷ path);
+    others = λ scope path o was. elim (puts.others scope (number ∷ pos k ∷ path) o was) [ inl e ↦ inl (rest_is number k path rest e) | inr is ↦ inr is ];
   }
 
   -- a record's own options, where the path goes on
-  own_stay : (Q R : Said) (at : List ℤ) → Puts new Q R at → ([] ≡ at → ⊥) → (x : Option OptionsContent) → InOwn Q x → InOwn R x
-  own_stay Q R at puts misses x all = own_keeps Q R (λ o was. elim (puts.others [] o was) [ inl e ↦ absurd (misses e) | inr is ↦ is ]) x all
+  own_stay : (scope : OptionScope) (Q R : Said) (at : List ℤ) → Puts new Q R at → ([] ≡ at → ⊥) → (x : Option OptionsContent) → InOwn scope Q x → InOwn scope R x
+  own_stay scope Q R at puts misses x all = own_keeps scope Q R (λ o was. elim (puts.others scope [] o was) [ inl e ↦ absurd (misses e) | inr is ↦ is ]) x all
 
   goes_on : (number : ℤ) (rest : List ℤ) → [] ≡ number ∷ rest → ⊥
   goes_on number rest e = cc
@@ -72,24 +74,24 @@ module _ (new : OptionsContent) where
             (λ path same. cc ((Decides-int_eq number (pos list)).1 (sym (number_is (pos list) number (pos at) k path rest same)), e))) xs all
 
   -- ---- records
-  own_puts : (path : List ℤ) (Q R : Said) → Puts new Q R path → (x : Option OptionsContent) → InOwn Q x → InOwn R (own_put path new x)
-  own_puts [] Q R puts x all = puts.fresh []
-  own_puts (number ∷ rest) Q R puts x all = own_stay Q R (number ∷ rest) puts (goes_on number rest) x all
+  own_puts : (scope : OptionScope) (path : List ℤ) (Q R : Said) → Puts new Q R path → (x : Option OptionsContent) → InOwn scope Q x → InOwn scope R (own_put path new x)
+  own_puts scope [] Q R puts x all = puts.fresh scope []
+  own_puts scope (number ∷ rest) Q R puts x all = own_stay scope Q R (number ∷ rest) puts (goes_on number rest) x all
 
   field_puts : (path : List ℤ) (Q R : Said) → Puts new Q R path → (f : FieldContent) → InField Q f → InField R (field_put path new f)
-  field_puts path Q R puts f all = own_puts path Q R puts f.options all
+  field_puts path Q R puts f all = own_puts scopes.Field path Q R puts f.options all
 
   oneof_puts : (path : List ℤ) (Q R : Said) → Puts new Q R path → (x : OneofContent) → InOneof Q x → InOneof R (oneof_put path new x)
-  oneof_puts path Q R puts x all = own_puts path Q R puts x.options all
+  oneof_puts path Q R puts x all = own_puts scopes.Oneof path Q R puts x.options all
 
   range_puts : (path : List ℤ) (Q R : Said) → Puts new Q R path → (r : ExtensionRangeContent) → InRange Q r → InRange R (range_put path new r)
-  range_puts path Q R puts r all = own_puts path Q R puts r.options all
+  range_puts path Q R puts r all = own_puts scopes.ExtensionRange path Q R puts r.options all
 
   value_puts : (path : List ℤ) (Q R : Said) → Puts new Q R path → (v : EnumValueContent) → InValue Q v → InValue R (value_put path new v)
-  value_puts path Q R puts v all = own_puts path Q R puts v.options all
+  value_puts path Q R puts v all = own_puts scopes.EnumValue path Q R puts v.options all
 
   method_puts : (path : List ℤ) (Q R : Said) → Puts new Q R path → (m : MethodContent) → InMethod Q m → InMethod R (method_put path new m)
-  method_puts path Q R puts m all = own_puts path Q R puts m.options all
+  method_puts path Q R puts m all = own_puts scopes.Method path Q R puts m.options all
 
   -- a path of fewer than two steps leads to no entry
   above : (Q R : Said) → Puts new Q R [] → (number : ℤ) → KeepsFrom Q R number 0
@@ -99,20 +101,20 @@ module _ (new : OptionsContent) where
   short Q R only puts number k far = past Q R (only ∷ []) puts number k (λ path e. cc)
 
   enum_puts : (path : List ℤ) (Q R : Said) → Puts new Q R path → (e : EnumContent) → InEnum Q e → InEnum R (enum_put path new e)
-  enum_puts [] Q R puts e all = (puts.fresh [], list_keeps InValue value_keeps Q R (pos 2) 0 (above Q R puts (pos 2)) e.value all.1)
+  enum_puts [] Q R puts e all = (puts.fresh scopes.Enum [], list_keeps InValue value_keeps Q R (pos 2) 0 (above Q R puts (pos 2)) e.value all.1)
   enum_puts (number ∷ []) Q R puts e all =
-      (own_stay Q R (number ∷ []) puts (goes_on number []) e.options all.0, list_keeps InValue value_keeps Q R (pos 2) 0 (short Q R number puts (pos 2)) e.value all.1)
+      (own_stay scopes.Enum Q R (number ∷ []) puts (goes_on number []) e.options all.0, list_keeps InValue value_keeps Q R (pos 2) 0 (short Q R number puts (pos 2)) e.value all.1)
   enum_puts (number ∷ place ∷ rest) Q R puts e all = (
-    own_stay Q R (number ∷ place ∷ rest) puts (goes_on number (place ∷ rest)) e.options all.0,
+    own_stay scopes.Enum Q R (number ∷ place ∷ rest) puts (goes_on number (place ∷ rest)) e.options all.0,
     in_puts InValue value_keeps (value_put rest new) rest (value_puts rest) Q R 2 number place puts e.value all.1,
   )
 
   service_puts : (path : List ℤ) (Q R : Said) → Puts new Q R path → (s : ServiceContent) → InService Q s → InService R (service_put path new s)
-  service_puts [] Q R puts s all = (puts.fresh [], list_keeps InMethod method_keeps Q R (pos 2) 0 (above Q R puts (pos 2)) s.method all.1)
+  service_puts [] Q R puts s all = (puts.fresh scopes.Service [], list_keeps InMethod method_keeps Q R (pos 2) 0 (above Q R puts (pos 2)) s.method all.1)
   service_puts (number ∷ []) Q R puts s all =
-      (own_stay Q R (number ∷ []) puts (goes_on number []) s.options all.0, list_keeps InMethod method_keeps Q R (pos 2) 0 (short Q R number puts (pos 2)) s.method all.1)
+      (own_stay scopes.Service Q R (number ∷ []) puts (goes_on number []) s.options all.0, list_keeps InMethod method_keeps Q R (pos 2) 0 (short Q R number puts (pos 2)) s.method all.1)
   service_puts (number ∷ place ∷ rest) Q R puts s all = (
-    own_stay Q R (number ∷ place ∷ rest) puts (goes_on number (place ∷ rest)) s.options all.0,
+    own_stay scopes.Service Q R (number ∷ place ∷ rest) puts (goes_on number (place ∷ rest)) s.options all.0,
     in_puts InMethod method_keeps (method_put rest new) rest (method_puts rest) Q R 2 number place puts s.method all.1,
   )
 
@@ -147,9 +149,9 @@ module _ (new : OptionsContent) where
 
   message_puts : (path : List ℤ) (Q R : Said) → Puts new Q R path → (m : MessageContent) → InMessage Q m → InMessage R (message_put path new m)
   message_puts [] Q R puts (message name fields extensions nested enums ranges oneofs options reserved names) all =
-      (parts_keep Q R (above Q R puts) fields extensions enums ranges oneofs options (Some new) (puts.fresh []) all.0, messages_keep Q R (pos 3) 0 (above Q R puts (pos 3)) nested all.1)
+      (parts_keep Q R (above Q R puts) fields extensions enums ranges oneofs options (Some new) (puts.fresh scopes.Message []) all.0, messages_keep Q R (pos 3) 0 (above Q R puts (pos 3)) nested all.1)
   message_puts (number ∷ []) Q R puts (message name fields extensions nested enums ranges oneofs options reserved names) all = (
-    parts_keep Q R (short Q R number puts) fields extensions enums ranges oneofs options options (own_stay Q R (number ∷ []) puts (goes_on number []) options all.0.own) all.0,
+    parts_keep Q R (short Q R number puts) fields extensions enums ranges oneofs options options (own_stay scopes.Message Q R (number ∷ []) puts (goes_on number []) options all.0.own) all.0,
     messages_keep Q R (pos 3) 0 (short Q R number puts (pos 3)) nested all.1,
   )
   message_puts (number ∷ place ∷ rest) Q R puts (message name fields extensions nested enums ranges oneofs options reserved names) all =
@@ -160,21 +162,21 @@ module _ (new : OptionsContent) where
           enum = in_puts InEnum enum_keeps (enum_put rest new) rest (enum_puts rest) Q R 4 number place puts enums parts.enum;
           range = in_puts InRange range_keeps (range_put rest new) rest (range_puts rest) Q R 5 number place puts ranges parts.range;
           oneof = in_puts InOneof oneof_keeps (oneof_put rest new) rest (oneof_puts rest) Q R 8 number place puts oneofs parts.oneof;
-          own = own_stay Q R (number ∷ place ∷ rest) puts (goes_on number (place ∷ rest)) options parts.own;
+          own = own_stay scopes.Message Q R (number ∷ place ∷ rest) puts (goes_on number (place ∷ rest)) options parts.own;
         },
         nested_puts (message_put rest new) rest (message_puts rest) Q R number place puts nested all.1,
       )
 
   -- ---- files
   pub file_puts : (path : List ℤ) (Q R : Said) → Puts new Q R path → (f : FileContent) → InFile Q f → InFile R (file_put path new f)
-  file_puts [] Q R puts f all = declared_keep Q R (above Q R puts) f (Some new) (puts.fresh []) all
-  file_puts (number ∷ []) Q R puts f all = declared_keep Q R (short Q R number puts) f f.options (own_stay Q R (number ∷ []) puts (goes_on number []) f.options all.own) all
+  file_puts [] Q R puts f all = declared_keep Q R (above Q R puts) f (Some new) (puts.fresh scopes.File []) all
+  file_puts (number ∷ []) Q R puts f all = declared_keep Q R (short Q R number puts) f f.options (own_stay scopes.File Q R (number ∷ []) puts (goes_on number []) f.options all.own) all
   file_puts (number ∷ place ∷ rest) Q R puts f all = record {
     message_type = in_puts InMessage message_keeps (message_put rest new) rest (message_puts rest) Q R 4 number place puts f.message_type all.message_type;
     enum_type = in_puts InEnum enum_keeps (enum_put rest new) rest (enum_puts rest) Q R 5 number place puts f.enum_type all.enum_type;
     service = in_puts InService service_keeps (service_put rest new) rest (service_puts rest) Q R 6 number place puts f.service all.service;
     extension = in_puts InField field_keeps (field_put rest new) rest (field_puts rest) Q R 7 number place puts f.extension all.extension;
-    own = own_stay Q R (number ∷ place ∷ rest) puts (goes_on number (place ∷ rest)) f.options all.own;
+    own = own_stay scopes.File Q R (number ∷ place ∷ rest) puts (goes_on number (place ∷ rest)) f.options all.own;
   }
 
 -- the path of a location

@@ -1,5 +1,5 @@
 -- Pools that are built but for their options.
-use Rattle.std.proofs.Common.{◌∙◌, List, [], ◌∷◌, map, ap, refl}
+use Rattle.std.proofs.Common.{◌≡◌, ◌++◌, ◌∙◌, List, [], ◌∷◌, map, ap, refl}
 use Rattle.descriptor_records.specs.Content.{FileContent, file_view}
 use Rattle.descriptor_records.specs.declared.file.FileDescriptorProto.{FileDescriptorProto}
 use Rattle.reflect_build.specs.Accepted.{FaultlessFiles}
@@ -14,7 +14,7 @@ use Rattle.linked_view.proofs.Together.{added_all, built_more, empty_built}
 use Rattle.schema_view.proofs.Road.{built_linked}
 use Rattle.settled_view.specs.BuiltBut.{IsBuiltBut, ChangesOptions}
 use Rattle.settled_view.proofs.Transfer.{recorded_before, indexed_before, kept_before}
-use Rattle.settled_view.proofs.Unsettled.{linking, is_before, added, batch_before, added_settles}
+use Rattle.settled_view.proofs.Unsettled.{linking, is_before, added, after_records, batch_before, added_settles}
 
 pub itself : (p : PoolType) → ChangesOptions p p
 itself p = record { settled = refl; bare = refl }
@@ -33,9 +33,9 @@ twice a b c s t = record {
   bare = t.bare ∙ s.bare;
 }
 
--- files that are linked behind a settled pool, as they are linked behind the pool that the batches
--- build
-pub record IsLinkedMore (earlier : List (List FileContent)) (old before new : PoolType)
+-- files that are linked behind a settled pool, which makes another of it, as they are linked behind
+-- the pool that the batches build: the same records stand behind those of both
+pub record IsLinkedMore (earlier : List (List FileContent)) (old before made new : PoolType)
     (files : List FileDescriptorProto) : Type 0 where
   pub linking : Linking
   pub of : IsOf old linking
@@ -45,11 +45,14 @@ pub record IsLinkedMore (earlier : List (List FileContent)) (old before new : Po
   pub faultless : FaultlessFiles before files linked
   pub built : IsBuilt (map file_view (new_files linking.indexes files) ∷ earlier) linked
   pub settles : ChangesOptions linked new
+  pub more : List FileDescriptorProto
+  pub behind : linked.records ≡ before.records ++ more
+  pub beside : made.records ≡ old.records ++ more
 
 pub linked_more : (earlier : List (List FileContent)) (old linked new : PoolType)
     (files : List FileDescriptorProto) (is : IsBuiltBut earlier old) → IsRecorded new
     → IsIndexed new → IsKept new → FaultlessFiles old files linked → ChangesOptions linked new
-    → IsLinkedMore earlier old is.linked new files
+    → IsLinkedMore earlier old is.linked linked new files
 linked_more earlier old linked new files is recorded index kept (w, of, (names, batch)) settles =
     let before = is.linked in
     let ns = new_files w.indexes files in
@@ -86,6 +89,9 @@ linked_more earlier old linked new files is recorded index kept (w, of, (names, 
         );
       };
       settles = whole;
+      more = batch.added.records.more;
+      behind = refl;
+      beside = after_records before old is.settles w of ns linked batch;
     }
 
 pub built_but_more : (earlier : List (List FileContent)) (old linked new : PoolType)

@@ -1,5 +1,5 @@
 -- The types of pools that were built batch by batch, and settled between the batches.
-use Rattle.std.proofs.Common.{◌≡◌, ◌∙◌, List, [], ◌∷◌, map, ap, sym}
+use Rattle.std.proofs.Common.{◌≡◌, ◌++◌, ◌∙◌, List, [], ◌∷◌, map, ap, sym}
 use Rattle.std.specs.List.{Contains}
 use Rattle.descriptor_records.specs.Content.{FileContent, file_view}
 use Rattle.descriptor_records.specs.declared.file.FileDescriptorProto.{FileDescriptorProto}
@@ -51,21 +51,36 @@ types_stay batches others p q plain same a b kept also =
     (map file_view b.but.linked.records) plain same a.but.built.built b.but.built.built)
     ∙ sym (settled_types others q b also)
 
+-- a pool that files were linked into and that was settled since tells of its fields, as it was linked;
+-- what was linked stands behind the records of the pool that linking made before
+pub record IsTypedMore (earlier : List (List FileContent)) (old : PoolType)
+    (was : IsTyped earlier old) (made new : PoolType) (files : List FileDescriptorProto) : Type 0
+  where
+    pub linking : Linking
+    pub of : IsOf old linking
+    pub typed : IsTyped (map file_view (new_files linking.indexes files) ∷ earlier) new
+    pub more : List FileDescriptorProto
+    pub behind : typed.but.linked.records ≡ was.but.linked.records ++ more
+    pub beside : made.records ≡ old.records ++ more
+
 pub typed_more : (earlier : List (List FileContent)) (old linked new : PoolType)
-    (files : List FileDescriptorProto) → IsTyped earlier old → IsRecorded new → IsIndexed new
+    (files : List FileDescriptorProto) (t : IsTyped earlier old) → IsRecorded new → IsIndexed new
     → IsKept new → FaultlessFiles old files linked → ChangesOptions linked new
-    → (w : Linking) × IsOf old w
-    × IsTyped (map file_view (new_files w.indexes files) ∷ earlier) new
+    → IsTypedMore earlier old t linked new files
 typed_more earlier old linked new files t recorded index kept faultless settles =
-    let m = linked_more earlier old linked new files t.but recorded index kept faultless settles in (
-      m.linking,
-      m.of,
-      record {
+    let m = linked_more earlier old linked new files t.but recorded index kept faultless settles in
+    record {
+      linking = m.linking;
+      of = m.of;
+      typed = record {
         but = record { linked = m.linked; built = m.built; settles = m.settles };
         tells = pool_fields t.but.linked m.linked files t.but.built.named m.indexed m.kept t.tells
             m.faultless;
-      },
-    )
+      };
+      more = m.more;
+      behind = m.behind;
+      beside = m.beside;
+    }
 
 pub empty_typed : IsTyped [] empty_pool
 empty_typed = record {

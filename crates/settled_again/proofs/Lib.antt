@@ -1,0 +1,10 @@
+pub mod Again
+pub mod Batch
+pub mod Grown
+pub mod Held
+pub mod Linked
+pub mod Read
+pub mod ReadPut
+pub mod Said
+pub mod Taken
+pub mod TypedAgain

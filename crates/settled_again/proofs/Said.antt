@@ -1,0 +1,48 @@
+-- What is said of all options of a file is said of those of its entities, and which type they are read
+-- by.
+use Rattle.std.proofs.Common.{◌≡◌, ◌≤◌, ◌++◌, ℕ, zero, suc, List, [], ◌∷◌, map, length, Some, slice_get, refl, sym, subst, arith}
+use Rattle.std.specs.List.{AllByRecursion}
+use Rattle.descriptor_records.specs.Content.{FileContent, OptionsContent, file_view}
+use Rattle.descriptor_records.specs.declared.file.FileDescriptorProto.{FileDescriptorProto}
+use Rattle.option_parts.specs.OptionTypes.{type_name}
+use Rattle.option_parts.specs.declared.option_scope.OptionScope.{OptionScope}
+use Rattle.option_setter.specs.declared.option_setter.NameScope.{NameScope}
+use Rattle.plain_records.specs.PlainRecords.{IsPlainFile}
+use Rattle.reflect_options.specs.Entities.{file_entities}
+use Rattle.reflect_options.specs.Settled.{IsType}
+use Rattle.reflect_pool.specs.Dots.{without_dot}
+use Rattle.reflect_pool.specs.declared.message.MessageDescriptor.{MessageDescriptor}
+use Rattle.reflect_tables.specs.Finding.{IsFirst}
+use Rattle.reflect_tables.specs.Types.{PoolType}
+use Rattle.settled_options.proofs.Said.{no_dot}
+use Rattle.settled_records.proofs.InEntities.{entities_of}
+use Rattle.settled_records.proofs.OfEntities.{Meets}
+use Rattle.settled_records.proofs.PlainOptions.{file_of, said}
+use Rattle.settled_again.specs.HeldOptions.{HasType}
+
+-- what holds of a list behind so many others holds of what stands there
+pub behind_get : (P : FileContent → Type 0) (fs : List FileDescriptorProto) (front back : List FileContent) → map file_view fs ≡ front ++ back → AllByRecursion P back → (k : ℕ) (f : FileDescriptorProto)
+    → slice_get fs k ≡ Some f → length front ≤ k → P (file_view f)
+behind_get P [] front back is all k f there far = absurd (cc there)
+behind_get P (x ∷ xs) [] back is all zero f there far =
+    let same : x ≡ f = cc there in
+    let here : AllByRecursion P (map file_view (x ∷ xs)) = subst (AllByRecursion P) (sym is) all in
+    subst (λ y. P (file_view y)) same here.0
+behind_get P (x ∷ xs) [] back is all (suc k) f there far =
+    let here : AllByRecursion P (map file_view (x ∷ xs)) = subst (AllByRecursion P) (sym is) all in
+    behind_get P xs [] (map file_view xs) refl here.1 k f there (omega arith)
+behind_get P (x ∷ xs) (y ∷ front) back is all zero f there far = absurd (omega arith)
+behind_get P (x ∷ xs) (y ∷ front) back is all (suc k) f there far =
+    let rest : map file_view xs ≡ front ++ back = cc is in
+    behind_get P xs front back rest all k f there (omega arith)
+
+-- what is so of all options of a file is so of those of its entities
+pub entities_say : (Says : OptionScope → OptionsContent → Type 0) (k : ℕ) (f : FileDescriptorProto) → IsPlainFile Says 99 (file_view f)
+    → AllByRecursion (Meets (λ file. said Says)) (file_entities k f)
+entities_say Says k f plain = entities_of (λ file. said Says) k f (file_of Says 99 (file_view f) plain)
+
+-- a type that options are settled by is one that the pool has
+pub type_of_scope : (p : PoolType) (scope : OptionScope) (s : NameScope) → s.pool.now ≡ p → (d : MessageDescriptor) → IsType scope s d → HasType p scope
+type_of_scope p scope s is d type =
+    let found = subst (λ (q : PoolType). IsFirst (λ m. m.full_name ≡ without_dot (type_name scope)) q.messages (Some d.index)) is type.1 in
+    (d.index, subst (λ n. IsFirst (λ m. m.full_name ≡ n) p.messages (Some d.index)) (no_dot scope) found)
