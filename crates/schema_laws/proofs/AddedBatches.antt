@@ -24,4 +24,4 @@ pub linked_batch : (earlier : List (List FileContent)) (old new : PoolType)
 linked_batch earlier old new files is recorded index kept (linked, fit, options, settled, bare) =
     let r = typed_more earlier old linked new fit.0 is recorded index kept fit.2.1
     (record { settled = settled; bare = bare }) in
-    record { typed = fit.0; linking = r.0; types = fit.1; of = r.1; built = r.2 }
+    record { typed = fit.0; linking = r.linking; types = fit.1; of = r.of; built = r.typed }

@@ -7,3 +7,6 @@ pub mod RefusedBatches
 pub mod TextsAlike
 pub mod PlainRecords
 pub mod OwnSets
+pub mod MadeOf
+pub mod OwnSchemas
+pub mod LaterTexts

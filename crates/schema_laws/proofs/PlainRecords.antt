@@ -19,7 +19,7 @@ use Rattle.plain_records.specs.SaidOptions.{SaysAndIsSettled, SaysItsBytes, Says
 use Rattle.plain_records.proofs.Both.{files_weaker}
 use Rattle.plain_records.proofs.Contents.{file_to}
 use Rattle.message_view.specs.Sound.{IsSound}
-use Rattle.linked_messages.proofs.Stays.{settled_sound}
+use Rattle.settled_again.proofs.Linked.{linked_sound}
 use Rattle.linked_records.proofs.Accepted.{linked_plain}
 use Rattle.linked_records.proofs.Typed.{typed_plain}
 use Rattle.settled_records.proofs.Left.{pool_done}
@@ -44,10 +44,6 @@ of_set bytes files (s, means, are) =
     each : (fs : List FileDescriptorProto) → AllByRecursion (IsInside records.IsPlainFile 100) fs → ArePlainFiles SaysItsBytes (map file_view fs)
     each [] all = tt
     each (f ∷ fs) all = (file_to 99 f all.0.1, each fs all.1)
-
--- the pool that linking makes is sound where the one is whose options were settled since
-linked_sound : (linked new : PoolType) → IsSettled linked new → IsSound new → IsSound linked
-linked_sound linked new settled = settled_sound new linked (sym (ap (λ (p : PoolType). record p { records = linked.records }) settled))
 
 -- a pool has as many files as records
 as_many : (p : PoolType) → p.files ≡ map record_file p.records → length p.files ≡ length p.records

@@ -2,3 +2,4 @@ pub mod Schemas
 pub mod Records
 pub mod Reprints
 pub mod Batches
+pub mod Sources

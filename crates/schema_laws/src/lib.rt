@@ -2,6 +2,8 @@
 #![tactic(auto)]
 
 pub mod batches;
+pub mod detour;
+pub mod growth;
 pub mod laws;
 pub mod names;
 pub mod presence;

@@ -1,0 +1,11 @@
+use Rattle.schema_laws.proofs.OwnSchemas.{same_names, same_records, same_types}
+use Rattle.schema_laws.proofs.detour.own_sets_give_the_same_schema.Goals as goal
+
+pub returns-clause-records : goal.returns-clause-records
+returns-clause-records c = λ batches s t is pool bytes short read. same_records batches s t is pool short read bytes
+
+pub returns-clause-types : goal.returns-clause-types
+returns-clause-types c = same_types
+
+pub returns-clause-names : goal.returns-clause-names
+returns-clause-names c = same_names

@@ -1,0 +1,9 @@
+use Rattle.std.proofs.Common.{sym}
+use Rattle.schema_laws.proofs.OwnSchemas.{same_names}
+use Rattle.schema_laws.proofs.TextsAlike.{decoded_alike, no_message}
+use Rattle.schema_laws.proofs.detour.schemas_of_own_sets_decode_alike.Goals as goal
+
+pub returns : goal.returns
+returns c = λ batches s t is pool short read.
+    decoded_alike s.pool t.pool s.sound t.sound
+    (sym (same_names batches s t is pool short read no_message))
