@@ -8,6 +8,7 @@ use Rattle.option_parts.specs.declared.option_error.OptionErrorKind.TheVariants 
 use Rattle.protox_lex.specs.Class.{Text}
 use Rattle.reflect_format.specs.declared.target.Target.{Target}
 use Rattle.reflect_format.specs.declared.target.Target.TheVariants as targets
+use Rattle.reflect_known.specs.KnownNames.{known_of_files}
 use Rattle.reflect_pool.specs.Finds.{FindsAny, FindsField}
 use Rattle.reflect_pool.specs.FindsNames.{FindsExtension}
 use Rattle.reflect_pool.specs.declared.extension.ExtensionDescriptor.{ExtensionDescriptor}
@@ -18,7 +19,6 @@ use Rattle.reflect_scope.specs.Says.{NameMeans}
 use Rattle.reflect_scope.specs.Seen.{tells}
 use Rattle.reflect_scope.specs.declared.definition.Definition.{Definition}
 use Rattle.reflect_scope.specs.declared.definition.ResolveNameFilter.TheVariants as filters
-use Rattle.reflect_tables.specs.Names.{AreNamed, names_of}
 use Rattle.option_setter.specs.declared.option_setter.NameScope.{NameScope}
 
 -- what is told, unless memory ran out
@@ -26,11 +26,11 @@ abbrev pub UnlessMemory : (OptionErrorKind → Type 0) → OptionErrorKind → T
 UnlessMemory P kinds.Memory = Unit {0}
 UnlessMemory P e = P e
 
--- where the option stands, the name means this as that of an extension
+-- where the option stands, the name means this as that of an extension, by what the files of the
+-- pool declare
 abbrev pub MeansThere : NameScope → Text → Meaning → Type 0
-MeansThere s name m = (known : Text → Option Definition)
-    × AreNamed known (names_of s.pool.now)
-    × NameMeans known (tells s.seen.now) filters.Extension s.name.now name m
+MeansThere s name m = NameMeans (known_of_files s.pool.now.records) (tells s.seen.now)
+    filters.Extension s.name.now name m
 
 -- an extension of this full name
 abbrev pub MeansExtension : NameScope → Text → Text → Type 0

@@ -4,7 +4,7 @@ ghost use Rattle.std.specs.Prelude.{◌≡◌, ◌<◌, All, HoldsAt, length, ma
 ghost use Rattle.reflect_tables.specs.Types.{FileWithin, ChildrenWithin, counts_of, declared_at, type_at, enum_at, extension_at, service_at};
 ghost use Rattle.reflect_tables.specs.Views.{children_of, declared_of, pool_of};
 ghost use Rattle.reflect_tables.specs.Finding.{IsFirst};
-ghost use Rattle.reflect_tables.specs.Names.{AreNamed, names_of};
+ghost use Rattle.reflect_known.specs.KnownNames.{known_of_files};
 ghost use Rattle.reflect_scope.specs.FileIndexes.{link_view};
 ghost use Rattle.reflect_scope.specs.Known.{known_of};
 ghost use Rattle.reflect_pool.specs.AtPaths.{HaveRecords};
@@ -57,9 +57,9 @@ impl DescriptorPool {
         self.tables.services[service as usize].methods.len() as u32
     }
 
-    /// What the full names stand for.
+    /// What the full names stand for, as the records of the files give them.
     pub fn names(&self) -> &NameTable<Definition>
-        ensures { AreNamed (known_of result.now) (names_of self.now) }
+        ensures { known_of result.now ≡ known_of_files self.now.records }
     {
         &self.names
     }

@@ -12,12 +12,12 @@ pub returns-in-Some-get_extension_by_name-clause-refused :
 returns-in-Some-get_extension_by_name-clause-refused c =
     let scope = c.args.self.now.scope in
     let full = c.as_str-full_name.result.now in
-    let known = known_of c.names-names.result.now in
-    let there = subst (λ n. NameMeans known (tells scope.seen.now) filters.Extension scope.name.now c.args.name.now (means n c.in-Ok.resolved.definition))
-    (sym c.as_str-full_name.ensures.value) c.in-Ok.ensures.means in (
+    let there = subst (λ k. NameMeans k (tells scope.seen.now) filters.Extension scope.name.now c.args.name.now (means full c.in-Ok.resolved.definition)) c.names-names.ensures
+    (subst (λ n. NameMeans (known_of c.names-names.result.now) (tells scope.seen.now) filters.Extension scope.name.now c.args.name.now (means n c.in-Ok.resolved.definition))
+    (sym c.as_str-full_name.ensures.value) c.in-Ok.ensures.means) in (
       full,
       c.in-Some-get_extension_by_name.field-0,
-      (c.in-Ok.resolved.definition, (known, c.names-names.ensures, there)),
+      (c.in-Ok.resolved.definition, there),
       c.in_default.ensures.finds,
       c.in-Some-get_extension_by_name.ensures.finds,
     )
