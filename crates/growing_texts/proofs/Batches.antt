@@ -1,5 +1,5 @@
 -- Texts give the same messages, in the same bytes, after any number of further batches.
-use Rattle.std.proofs.Common.{◌≡◌, ◌∙◌, List, [], ◌∷◌, ◌++◌, true, Option, Some, sym, subst}
+use Rattle.std.proofs.Common.{◌≡◌, ◌∙◌, List, [], ◌∷◌, ◌++◌, true, Option, Some, subst}
 use Rattle.descriptor_records.specs.Content.{Text, FileContent}
 use Rattle.protobuf_model.specs.Bytes.{bytes_of}
 use Rattle.protobuf_model.specs.Types.{Name}
@@ -9,19 +9,13 @@ use Rattle.schema_view.specs.Declarations.{MessageFacts}
 use Rattle.schema_view.specs.Lawful.{AddsLawful, Builds}
 use Rattle.schema_view.specs.Types.{message_at, types_of}
 use Rattle.schema_view.specs.Views.{view_of}
-use Rattle.schema_view.proofs.Batches.{one_linking}
+use Rattle.schema_view.proofs.Batches.{one_built}
 use Rattle.schema_view.proofs.Orders.{views_stay}
 use Rattle.schema_view.proofs.Road.{built_linked}
 use Rattle.texts_view.specs.Named.{schema_in}
 use Rattle.growing_texts.specs.Declared.{is_declared}
 use Rattle.growing_texts.specs.SaysAll.{SaysAll}
 use Rattle.growing_texts.proofs.Files.{IsAsBefore, back, files_say_all, grown_files, message_declared, stays}
-
--- batches are built in one way
-one_built : (batches : List (List FileContent)) (a b : List FileContent) → Builds batches a → Builds batches b → a ≡ b
-one_built [] a b x y = x ∙ sym y
-one_built (new ∷ earlier) a b (old, x, adds) (other, y, also) =
-    one_linking old new a b adds (subst (λ fs. AddsLawful fs new b) (sym (one_built earlier old other x y)) also)
 
 pub further : (more earlier : List (List FileContent)) (old after : List FileContent) (decoded later : Name → Text → Option Message) → Builds earlier old
     → Builds (more ++ earlier) after → IsAsBefore old after decoded later

@@ -180,15 +180,11 @@ module _ (known : Known) (sees : ℕ → Bool) (f : ResolveNameFilter) where
       subst (λ u. MatchBool u (m ≡ rooted (standing sees f (known name)) name)
       (SaysPlain known sees f around (b ∷ name) m)) is h
 
-  pub resolved_to : (around name full : Text) (d : Definition)
-      → resolve known sees f around name ≡ means full d
+  pub means_to : (around name full : Text) (d : Definition)
+      → NameMeans known sees f around name (means full d)
       → MeansBy Wanted Holding around name full × IsFound full d
-  resolved_to around [] full d e =
-      plain_to around [] full d (subst (NameMeans known sees f around []) e (resolve_means known sees f around []))
-  resolved_to around (b ∷ name) full d e = by (eqb b 46) refl where
-    says : NameMeans known sees f around (b ∷ name) (means full d)
-    says = subst (NameMeans known sees f around (b ∷ name)) e (resolve_means known sees f around (b ∷ name))
-
+  means_to around [] full d says = plain_to around [] full d says
+  means_to around (b ∷ name) full d says = by (eqb b 46) refl where
     by : (v : Bool) → eqb b 46 ≡ v
         → MeansBy Wanted Holding around (b ∷ name) full × IsFound full d
     by true is =
@@ -204,6 +200,13 @@ module _ (known : Known) (sees : ℕ → Bool) (f : ResolveNameFilter) where
               (MeansPlain Wanted Holding around (b ∷ name) full)) (sym is) r.0,
           r.1,
         )
+
+  pub resolved_to : (around name full : Text) (d : Definition)
+      → resolve known sees f around name ≡ means full d
+      → MeansBy Wanted Holding around name full × IsFound full d
+  resolved_to around name full d e =
+      means_to around name full d
+      (subst (NameMeans known sees f around name) e (resolve_means known sees f around name))
 
   -- back: what has a meaning by prefixes is found
   module _ (around name full : Text) where

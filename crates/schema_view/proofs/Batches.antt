@@ -245,3 +245,10 @@ linked_once os apart m n (f ∷ fs) first second =
 -- files are linked in one way
 pub one_linking : (old new after last : List FileContent) → AddsLawful old new after → AddsLawful old new last → after ≡ last
 one_linking old new after last (m, l, is) (n, k, be) = is ∙ ap (λ fs. old ++ fs) (linked_once (outlines (old ++ new)) l.apart m n new l.means k.means) ∙ sym be
+
+-- and batches are built in one way
+pub one_built : (batches : List (List FileContent)) (after last : List FileContent) → Builds batches after → Builds batches last → after ≡ last
+one_built [] after last a b = a ∙ sym b
+one_built (new ∷ earlier) after last (old, before, adds) (other, behind, also) =
+    let same = one_built earlier other old behind before in
+    one_linking old new after last adds (subst (λ fs. AddsLawful fs new last) same also)

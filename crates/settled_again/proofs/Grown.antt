@@ -15,11 +15,11 @@ use Rattle.protobuf_model.specs.Values.{Message}
 use Rattle.reflect_scalar.proofs.First.{Tells, find_place, find_some}
 use Rattle.reflect_tables.specs.Types.{MessageType, PoolType, no_type}
 use Rattle.schema_view.specs.Declarations.{MessageFacts}
-use Rattle.schema_view.specs.Lawful.{AddsLawful, Builds}
+use Rattle.schema_view.specs.Lawful.{AddsLawful}
 use Rattle.schema_view.specs.Types.{message_at}
 use Rattle.schema_view.specs.Types as view
 use Rattle.schema_view.specs.Views.{Grows, Held, View, view_of}
-use Rattle.schema_view.proofs.Batches.{one_linking}
+use Rattle.schema_view.proofs.Batches.{one_built}
 use Rattle.schema_view.proofs.Growing.{grown_types}
 use Rattle.schema_view.proofs.Orders.{views_stay}
 use Rattle.text_view.specs.Schemas.{type_called}
@@ -29,13 +29,6 @@ use Rattle.types_view.specs.Typed.{IsTyped}
 use Rattle.types_view.proofs.Settled.{settled_types}
 use Rattle.settled_options.proofs.Said.{no_dot}
 use Rattle.settled_again.specs.HeldOptions.{AreHeld, HasType}
-
--- batches build one list of files
-pub built_once : (batches : List (List FileContent)) (after last : List FileContent) → Builds batches after → Builds batches last → after ≡ last
-built_once [] after last a b = a ∙ sym b
-built_once (new ∷ earlier) after last (old, before, adds) (other, behind, also) =
-    let same = built_once earlier other old behind before in
-    one_linking old new after last adds (subst (λ fs. AddsLawful fs new last) same also)
 
 -- ---- types of options that a pool has
 -- nothing is read of the messages that bytes mean
@@ -109,7 +102,7 @@ module _ (earlier : List (List FileContent)) (batch : List FileContent) (old new
   after = map file_view is.but.linked.records
 
   adds : AddsLawful before batch after
-  adds = subst (λ fs. AddsLawful fs batch after) (built_once earlier is.but.built.built.0 before is.but.built.built.1 was.but.built.built) is.but.built.built.2
+  adds = subst (λ fs. AddsLawful fs batch after) (one_built earlier is.but.built.built.0 before is.but.built.built.1 was.but.built.built) is.but.built.built.2
 
   types_grow : (t : Name) (m : MessageFacts) → message_at (view_of before) t ≡ Some m → IsOlder (pool.types_of old) t (pool.types_of new) t
   types_grow t m e =

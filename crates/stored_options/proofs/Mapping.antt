@@ -181,8 +181,8 @@ module _ (levels : ℕ) (old : DynamicMessage) (sound : IsSound old.descriptor.p
       ∙ ap (λ p. Some (field p (target_field d t).label (target_field d t).oneof (target_field d t).extension)) part
       ∙ ap (λ l. Some (field (part_of pool (entry_part pool f 2)) l (target_field d t).oneof (target_field d t).extension)) label
 
-  seen : add_all (its_types name) f.number its_field.part its_field.label (view old) (content_view (held.Message m) ∷ []) ≡ Some (view new)
-  seen =
+  pub map_seen : add_all (its_types name) f.number its_field.part its_field.label (view old) (content_view (held.Message m) ∷ []) ≡ Some (view new)
+  map_seen =
       let e = the_entry c f kind c_sound c_map c_whole in
       ap (λ fs. add_all fs f.number its_field.part its_field.label (view old) (content_view (held.Message m) ∷ [])) (types_are pool sound.names d refl)
       ∙ (map_added old new sound.apart type t owns is_map fine.shape.1 c at kind c_sound e.0 e.1 (value_no_float c f kind c_sound c_map c_whole) vs ((m, refl, same, kinds_held), tt) held_entries.0 held_entries.1 formed adds).0
@@ -230,13 +230,13 @@ module _ (levels : ℕ) (old : DynamicMessage) (sound : IsSound old.descriptor.p
       entry_right ⊥ (IsTyped (suc levels) its_types) (suc (suc levels)) its_types (λ u. nothing_typed (suc levels) its_types u) (name_at pool c.index) key its_part holds.0 holds.1 defaults.0 defaults.1 (λ never. absurd never) (view m)
       entry_typed (λ never. absurd never) in
       (add_all_keeps ⊥ (IsTyped (suc levels) its_types) (suc (suc levels)) its_types name f.number its_part (keyed key) (target_field d t).oneof (target_field d t).extension there (target_number d sound.numbers t owns) (view old) (view new)
-      (content_view (held.Message m) ∷ []) (subst (IsAdded ⊥ (IsTyped (suc levels) its_types) its_types its_part (keyed key)) (sym entry_seen) (right.0, λ never. absurd never), tt) seen).typed fine.typed
+      (content_view (held.Message m) ∷ []) (subst (IsAdded ⊥ (IsTyped (suc levels) its_types) its_types its_part (keyed key)) (sym entry_seen) (right.0, λ never. absurd never), tt) map_seen).typed fine.typed
 
   new_known : KnowsAll its_types name (view new)
   new_known =
       let value = value_known its_types its_part holds.1.0 holds.1.1 (view m 2) (subst (λ o. KnowsHeld its_types o (view m 2)) holds.1.2 (entry_known 2)) in
       add_all_known its_types name f.number its_field there (view old) (view new) fine.known (keyed key) (content_view (held.Message m) ∷ [])
-      (subst (λ x. KnowsContent its_types its_part.kind (entry_of key its_part x).1) (sym entry_seen) value, tt) seen
+      (subst (λ x. KnowsContent its_types its_part.kind (entry_of key its_part x).1) (sym entry_seen) value, tt) map_seen
 
   pub map_fine : IsFine (suc levels) new
   map_fine = fine_so (suc levels) old sound fine new type after (stays t old new owns adds.3 fine.shape.1) new_typed new_known

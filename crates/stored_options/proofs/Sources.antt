@@ -67,7 +67,7 @@ few_bits o h z e = by o.positive_int_value refl where
       let c = cond_some (nat_lt n (2 ^ 63)) (pos n) z (sym (ap (λ p. elim p [ None ↦ o.negative_int_value | Some n ↦ cond (nat_lt n (2 ^ 63)) (Some (pos n)) None ]) is) ∙ e) in
       subst (FitsSigned w64) c.1 (record { sfits = ltb-true n (2 ^ 63) c.0 })
 
-all_few : (os : List UninterpretedOption) → AllByRecursion (λ x. IfSome x.negative_int_value (FitsSigned w64)) (map option_view os) → HaveFewBits os
+pub all_few : (os : List UninterpretedOption) → AllByRecursion (λ x. IfSome x.negative_int_value (FitsSigned w64)) (map option_view os) → HaveFewBits os
 all_few [] h = tt
 all_few (o ∷ os) h = (few_bits (option_view o) h.0, all_few os h.1)
 
@@ -136,7 +136,7 @@ module _ (scope : OptionScope) (s : NameScope) (o settled : Options) (paths : Li
   lists = (option_type scope s stored.descriptor type can).uninterpreted
 
   -- nothing is stored at first
-  stored_fine : o.encoded.items ≡ [] → IsFine top stored
+  pub stored_fine : o.encoded.items ≡ [] → IsFine top stored
   stored_fine empty =
       let its_types = types_of stored.descriptor.pool.now in
       let name = name_at stored.descriptor.pool.now stored.descriptor.index in
@@ -182,16 +182,17 @@ module _ (scope : OptionScope) (s : NameScope) (o settled : Options) (paths : Li
     bytes : settled.encoded.items ≡ message_bytes whole
     bytes = ap (λ (c : OptionsContent). c.encoded) is.1.4.0
 
-    written_stored : (m : Message) × AreStored (types_of s.pool.now) scope m settled.encoded.items
-    written_stored =
+    -- what is written is stored as that message
+    pub whole_stored : AreStored (types_of s.pool.now) scope (view whole) settled.encoded.items
+    whole_stored =
         let form = fine_formed whole whole_sound whole_fine (subst AreBytes bytes are) (subst (λ bytes. length bytes < 2 ^ 64) bytes (short settled.encoded)) is.1.4.1.0 is.1.4.1.1 in (
-          view whole,
-          (
-            of_name scope s whole.descriptor whole_type (λ types t. AreFormOf types t (view whole) settled.encoded.items)
-                (subst (AreFormOf (types_of whole.descriptor.pool.now) (name_at whole.descriptor.pool.now whole.descriptor.index) (view whole)) (sym bytes) form),
-            none_left,
-          ),
+          of_name scope s whole.descriptor whole_type (λ types t. AreFormOf types t (view whole) settled.encoded.items)
+              (subst (AreFormOf (types_of whole.descriptor.pool.now) (name_at whole.descriptor.pool.now whole.descriptor.index) (view whole)) (sym bytes) form),
+          none_left,
         )
+
+    written_stored : (m : Message) × AreStored (types_of s.pool.now) scope m settled.encoded.items
+    written_stored = (view whole, whole_stored)
 
   -- of a map's entries, which are stored as they are
   entry_stored : scope ≡ scopes.Message → options_view o ≡ of_entries → (m : Message) × AreStored (types_of s.pool.now) scope m settled.encoded.items
