@@ -10,6 +10,7 @@ use Rattle.reflect_wire.specs.declared.wire_error.WireError.TheVariants as wire
 use Rattle.reflect_codec.specs.Faults.{SetBytesFault}
 use Rattle.reflect_codec.specs.Reading.{Rejects}
 use Rattle.reflect_codec.specs.Meaning.{IsSetBytes}
+use Rattle.message_view.specs.Sound.{IsSound}
 use Rattle.protox_parse.specs.Answers.{IsAnswered}
 use Rattle.protox_parse.specs.Refusals.{IsRefusalOf}
 use Rattle.protox_parse.specs.declared.error.ParseError.{ParseError}
@@ -39,7 +40,7 @@ use Rattle.reflect_decode.specs.Spelled.{TellsWhy}
 use Rattle.reflect_pool.specs.declared.message.MessageDescriptor.{MessageDescriptor}
 use Rattle.schema_core.specs.Payloads.{IsType}
 use Rattle.schema_core.specs.Serving.{IsPayload, PayloadRefused, of_schema}
-use Rattle.schema_core.specs.Refusals.{of_source, of_wire, of_text, of_options, IsNoText, BytesRefused, TextRefused, DescriptorRefused, IsNoSet, FilesFit, FilesRefused, sources_of, IsFileOf, AreFilesOf, SourcesLinked, SourcesRefused, SetRefused}
+use Rattle.schema_core.specs.Refusals.{of_source, of_wire, of_text, of_options, IsNoText, BytesRefused, TextRefused, DescriptorRefused, IsNoSet, FilesFit, FilesRefused, IsPool, sources_of, IsFileOf, AreFilesOf, SourcesLinked, SourcesRefused, SetRefused}
 
 -- a linker's refusal is one of files
 pub of_link : (p : PoolType) (files typed : List FileDescriptorProto) (d : DescriptorError) (e : SchemaError) → TypedFiles files typed → AreRefused p typed d → (e ≡ Memory) ⊎ (e ≡ Link d) → FilesRefused p files e
@@ -47,10 +48,10 @@ of_link p files typed d e t r (inl m) = rw m tt
 of_link p files typed d e t r (inr l) = rw l (typed, t, r)
 
 -- files that fit together are refused for their options
-pub refused_options : (p : PoolType) (files : List FileDescriptorProto) (linked : PoolType) (o : OptionError) (kind : OptionErrorKind) → o.kind ≡ kind → FilesFit p files linked → UnlessMemory (RefusesFrom linked (length p.files) (option_place o)) kind
+pub refused_options : (p : PoolType) (files : List FileDescriptorProto) (linked : PoolType) (o : OptionError) (kind : OptionErrorKind) → o.kind ≡ kind → FilesFit p files linked → IsPool linked → IsSound linked → UnlessMemory (RefusesFrom linked (length p.files) (option_place o)) kind
     → FilesRefused p files (of_options o kind)
-refused_options p files linked o kinds.Memory is fit refused = tt
-refused_options p files linked o kind is fit refused = (linked, fit, subst (RefusesFrom linked (length p.files) (option_place o)) (sym is) refused)
+refused_options p files linked o kinds.Memory is fit pool sound refused = tt
+refused_options p files linked o kind is fit pool sound refused = (linked, fit, pool, sound, subst (RefusesFrom linked (length p.files) (option_place o)) (sym is) refused)
 
 -- files that are refused are refused as the set that they stand in
 pub of_set : (p : PoolType) (bytes : List ℕ) (files : List FileDescriptorProto) (e : SchemaError) → SpellsSet bytes files → FilesRefused p files e → SetRefused p bytes e

@@ -1,6 +1,10 @@
 -- Which refusals the calls of a schema give.
 use Rattle.std.specs.Prelude.{◌≡◌, ◌⊎◌, ◌<◌, ◌^◌, ℕ, List, [], ◌∷◌, None, Some, Ok, Err, map, length, take, slice_get, string_bytes, codes}
 use Rattle.std.specs.Borrow.{Bor}
+use Rattle.linked_messages.specs.Kept.{IsKept}
+use Rattle.linked_view.specs.Alone.{IsRecorded}
+use Rattle.linked_view.specs.Extended.{IsIndexed}
+use Rattle.message_view.specs.Sound.{IsSound}
 use Rattle.protox_parse.specs.Answers.{IsAnswered}
 use Rattle.protox_parse.specs.Refusals.{IsRefusalOf}
 use Rattle.protox_parse.specs.declared.error.ParseError.{ParseError}
@@ -110,12 +114,20 @@ FilesLinked p files new = (linked : PoolType) × FilesFit p files linked
     × SettlesPool linked (length p.files) new × IsSettled linked new
     × (map bare_of new.records ≡ map bare_of linked.records)
 
--- of files: they do not fit together, or are too many; or they fit, and a type of options is none
--- to read options by, or options of theirs are refused, at that place
+-- what each pool has by its type
+pub record IsPool (p : PoolType) : Type 0 where
+  pub recorded : IsRecorded p
+  pub indexed : IsIndexed p
+  pub kept : IsKept p
+
+-- of files: they do not fit together, or are too many; or they fit, into a pool whose types are
+-- sound, and a type of options is none to read options by, or options of theirs are refused, at
+-- that place
 abbrev pub FilesRefused : PoolType → List FileDescriptorProto → SchemaError → Type 0
 FilesRefused p files (Link e) = (typed : List FileDescriptorProto) × TypedFiles files typed
     × AreRefused p typed e
 FilesRefused p files (Options e) = (linked : PoolType) × FilesFit p files linked
+    × IsPool linked × IsSound linked
     × RefusesFrom linked (length p.files) (option_place e) e.kind
 FilesRefused p files Memory = Unit {0}
 FilesRefused p files _ = ⊥

@@ -8,5 +8,7 @@ pub mod TextsAlike
 pub mod PlainRecords
 pub mod OwnSets
 pub mod MadeOf
+pub mod OwnRefused
 pub mod OwnSchemas
+pub mod Histories
 pub mod LaterTexts

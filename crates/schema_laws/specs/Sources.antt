@@ -1,19 +1,36 @@
 -- Schemas that sources made.
-use Rattle.std.specs.Prelude.{◌≡◌, ℕ, List, [], ◌∷◌}
+use Rattle.std.specs.Prelude.{◌≡◌, ◌<◌, ◌^◌, ℕ, List, [], ◌∷◌, Some, length, true}
+use Rattle.option_parts.specs.declared.option_error.OptionErrorKind.TheVariants.{UndecodableOptions}
+use Rattle.reflect_bytes.specs.Written.{pool_bytes}
+use Rattle.reflect_passes.specs.Errors.{is_memory}
 use Rattle.reflect_pool.specs.Linked.{empty_pool}
-use Rattle.reflect_tables.specs.Types.{PoolType}
-use Rattle.schema_core.specs.Refusals.{SourcesLinked}
+use Rattle.reflect_wire.specs.declared.wire_error.WireError.TheVariants as wire
+use Rattle.schema_core.specs.Refusals.{IsPool, SetLinked, SourcesLinked}
+use Rattle.schema_core.specs.declared.error.SchemaError.{SchemaError}
+use Rattle.schema_core.specs.declared.error.SchemaError.TheVariants.{Link, Memory, Options}
 use Rattle.schema_core.specs.declared.schema.Schema.{Schema}
-use Rattle.types_view.specs.Pools.{IsIndexed, IsKept, IsRecorded}
 
--- what each pool has, as `pools_are_recorded`, `pools_are_indexed` and `pools_are_linked` say
-pub record IsPool (p : PoolType) : Type 0 where
-  pub recorded : IsRecorded p
-  pub indexed : IsIndexed p
-  pub kept : IsKept p
+-- sources that are added together, by name and text, and the batches of them, the last one first
+abbrev pub SourceBatches : Type 0
+SourceBatches = List (List (List ℕ × List ℕ))
 
--- a schema without files to which these sources were added, the last of them first
-abbrev pub IsMadeOf : List (List (List ℕ × List ℕ)) → Schema → Type 0
+-- a schema without files to which these were added
+abbrev pub IsMadeOf : SourceBatches → Schema → Type 0
 IsMadeOf [] s = s.pool ≡ empty_pool
 IsMadeOf (sources ∷ earlier) s =
     (old : Schema) × IsMadeOf earlier old × SourcesLinked old.pool sources s.pool × IsPool s.pool
+
+-- sources made the first schema, whose own set is no longer than a length can say, and the second
+-- is made of that set
+pub record IsDetour (batches : SourceBatches) (s t : Schema) : Type 0 where
+  pub made : IsMadeOf batches s
+  pub short : length (pool_bytes s.pool) < 2 ^ 64
+  pub pool : IsPool t.pool
+  pub linked : SetLinked empty_pool (pool_bytes s.pool) t.pool
+
+-- what a schema tells where memory ran out
+abbrev pub TellsMemory : SchemaError → Type 0
+TellsMemory Memory = Unit {0}
+TellsMemory (Link e) = is_memory e.first ≡ true
+TellsMemory (Options e) = e.kind ≡ UndecodableOptions (Some wire.Memory)
+TellsMemory _ = ⊥

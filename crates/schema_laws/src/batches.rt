@@ -1,7 +1,7 @@
 //! Laws of the batches that a schema is built of, each the contract of a function that does
 //! nothing. With them the laws of `schema_view` speak of schemas: a batch is what was added,
 //! without the files that were there, and with the options that linking reads where it reads them.
-ghost use Rattle.std.specs.Prelude.{◌≡◌, ◌∷◌, ℕ, List, map, Contains};
+ghost use Rattle.std.specs.Prelude.{◌≡◌, ◌∷◌, ℕ, List, map};
 ghost use Rattle.descriptor_records.specs.Content.{FileContent, file_view};
 ghost use Rattle.descriptor_records.specs.declared.file.FileDescriptorProto.{FileDescriptorProto};
 ghost use Rattle.option_parts.specs.TypedOptions.{TypedFiles};
@@ -13,25 +13,22 @@ ghost use Rattle.reflect_wire.specs.declared.wire_error.WireError.{WireError};
 ghost use Rattle.reflect_wire.specs.declared.wire_error.WireError.TheVariants.{Memory};
 ghost use Rattle.text_error.specs.declared.error.ParseErrorKind.{ParseErrorKind};
 ghost use Rattle.text_error.specs.declared.error.ParseErrorKind.TheVariants as kinds;
-ghost use Rattle.schema_view.specs.Lawful.{SameFiles, sources};
-ghost use Rattle.schema_view.specs.Plain.{IsPlainFile};
 ghost use Rattle.message_view.specs.Types.{types_of};
-ghost use Rattle.types_view.specs.Pools.{IsBuiltBut, IsIndexed, IsKept, IsRecorded};
+ghost use Rattle.types_view.specs.Pools.{IsBuiltBut};
 ghost use Rattle.types_view.specs.Typed.{IsTyped};
 ghost use Rattle.schema_core.specs.Payloads.{Decoded, Encoded, Recoded};
-ghost use Rattle.schema_core.specs.Refusals.{AreFilesOf, IsNoMessage, IsNoText, SetLinked};
+ghost use Rattle.schema_core.specs.Refusals.{AreFilesOf, IsNoMessage, IsNoText, IsPool, SetLinked};
 ghost use Rattle.schema_core.specs.Refusals.{SetRefused, SourcesLinked, SourcesRefused};
 ghost use Rattle.schema_core.specs.declared.error.SchemaError.TheVariants.{Link};
 ghost use Rattle.schema_core.specs.declared.schema.Schema.{Schema};
-ghost use Rattle.schema_laws.specs.Batches.{AreNoBatch};
+ghost use Rattle.schema_laws.specs.Batches.{AreNoBatch, HaveSameFiles};
 
 /// Sources that are added are one batch more, and the schema's pool still tells of its fields. What
-/// is asked of the new schema's pool each pool has, as `pools_are_recorded`, `pools_are_indexed`
-/// and `pools_are_linked` say.
+/// `IsPool` asks each pool has, as `pools_are_recorded`, `pools_are_indexed` and `pools_are_linked`
+/// say.
 pub fn added_sources_are_a_batch()
     ensures { (earlier : List (List FileContent)) (old new : Schema)
-        (sources : List (List ℕ × List ℕ)) → IsTyped earlier old.pool
-        → IsRecorded new.pool → IsIndexed new.pool → IsKept new.pool
+        (sources : List (List ℕ × List ℕ)) → IsTyped earlier old.pool → IsPool new.pool
         → SourcesLinked old.pool sources new.pool
         → (files typed : List FileDescriptorProto) × (w : Linking) × AreFilesOf sources files
         × TypedFiles files typed × IsOf old.pool w
@@ -41,8 +38,7 @@ pub fn added_sources_are_a_batch()
 /// And so are descriptor sets.
 pub fn added_sets_are_a_batch()
     ensures { (earlier : List (List FileContent)) (old new : Schema) (bytes : List ℕ)
-        → IsTyped earlier old.pool
-        → IsRecorded new.pool → IsIndexed new.pool → IsKept new.pool
+        → IsTyped earlier old.pool → IsPool new.pool
         → SetLinked old.pool bytes new.pool
         → (files typed : List FileDescriptorProto) × (w : Linking) × SpellsSet bytes files
         × TypedFiles files typed × IsOf old.pool w
@@ -55,7 +51,7 @@ pub fn added_sets_are_a_batch()
 pub fn sources_that_do_not_link_are_no_batch()
     ensures { (earlier : List (List FileContent)) (old : Schema)
         (sources : List (List ℕ × List ℕ)) (e : DescriptorError)
-        → (is : IsBuiltBut earlier old.pool) → IsKept old.pool
+        → (is : IsBuiltBut earlier old.pool) → IsPool old.pool
         → SourcesRefused old.pool sources (Link e)
         → (files typed : List FileDescriptorProto) × AreFilesOf sources files
         × TypedFiles files typed × AreNoBatch is.linked old.pool typed e }
@@ -64,7 +60,7 @@ pub fn sources_that_do_not_link_are_no_batch()
 /// And so it is of descriptor sets.
 pub fn sets_that_do_not_link_are_no_batch()
     ensures { (earlier : List (List FileContent)) (old : Schema) (bytes : List ℕ)
-        (e : DescriptorError) → (is : IsBuiltBut earlier old.pool) → IsKept old.pool
+        (e : DescriptorError) → (is : IsBuiltBut earlier old.pool) → IsPool old.pool
         → SetRefused old.pool bytes (Link e)
         → (files typed : List FileDescriptorProto) × SpellsSet bytes files
         × TypedFiles files typed × AreNoBatch is.linked old.pool typed e }
@@ -74,18 +70,14 @@ pub fn sets_that_do_not_link_are_no_batch()
 /// types, where the files' names have no dots.
 pub fn schemas_have_one_order()
     ensures { (batches others : List (List FileContent)) (s t : Schema)
-        → ((f : FileContent) → Contains (sources batches) f → IsPlainFile f)
-        → SameFiles (sources batches) (sources others)
-        → IsTyped batches s.pool → IsTyped others t.pool → IsKept s.pool → IsKept t.pool
+        → HaveSameFiles batches others s t
         → types_of s.pool ≡ types_of t.pool }
 {}
 
 /// And so what both recode is the same bytes.
 pub fn schemas_of_the_same_files_recode_alike()
     ensures { (batches others : List (List FileContent)) (s t : Schema)
-        → ((f : FileContent) → Contains (sources batches) f → IsPlainFile f)
-        → SameFiles (sources batches) (sources others)
-        → IsTyped batches s.pool → IsTyped others t.pool → IsKept s.pool → IsKept t.pool
+        → HaveSameFiles batches others s t
         → (name bytes a b : List ℕ) → AreBytes bytes → Recoded s.pool name bytes a
         → Recoded t.pool name bytes b → a ≡ b }
 {}
@@ -93,9 +85,7 @@ pub fn schemas_of_the_same_files_recode_alike()
 /// Nor does the one refuse what the other recodes, unless memory runs out.
 pub fn schemas_of_the_same_files_accept_alike()
     ensures { (batches others : List (List FileContent)) (s t : Schema)
-        → ((f : FileContent) → Contains (sources batches) f → IsPlainFile f)
-        → SameFiles (sources batches) (sources others)
-        → IsTyped batches s.pool → IsTyped others t.pool → IsKept s.pool → IsKept t.pool
+        → HaveSameFiles batches others s t
         → (name bytes out : List ℕ) (e : WireError) → (e ≡ Memory → ⊥) → AreBytes bytes
         → Recoded s.pool name bytes out → IsNoMessage t.pool name bytes e → ⊥ }
 {}
@@ -103,9 +93,7 @@ pub fn schemas_of_the_same_files_accept_alike()
 /// What both encode a text to is the same bytes too.
 pub fn schemas_of_the_same_files_encode_alike()
     ensures { (batches others : List (List FileContent)) (s t : Schema)
-        → ((f : FileContent) → Contains (sources batches) f → IsPlainFile f)
-        → SameFiles (sources batches) (sources others)
-        → IsTyped batches s.pool → IsTyped others t.pool → IsKept s.pool → IsKept t.pool
+        → HaveSameFiles batches others s t
         → (name text a b : List ℕ) → Encoded s.pool name text a → Encoded t.pool name text b
         → a ≡ b }
 {}
@@ -113,9 +101,7 @@ pub fn schemas_of_the_same_files_encode_alike()
 /// And the one refuses no text that the other encodes, unless memory runs out.
 pub fn schemas_of_the_same_files_take_texts_alike()
     ensures { (batches others : List (List FileContent)) (s t : Schema)
-        → ((f : FileContent) → Contains (sources batches) f → IsPlainFile f)
-        → SameFiles (sources batches) (sources others)
-        → IsTyped batches s.pool → IsTyped others t.pool → IsKept s.pool → IsKept t.pool
+        → HaveSameFiles batches others s t
         → (name text out : List ℕ) (kind : ParseErrorKind) → (kind ≡ kinds.Memory → ⊥)
         → Encoded s.pool name text out → IsNoText t.pool name text kind → ⊥ }
 {}
@@ -123,9 +109,7 @@ pub fn schemas_of_the_same_files_take_texts_alike()
 /// What both print of bytes is the same text.
 pub fn schemas_of_the_same_files_decode_alike()
     ensures { (batches others : List (List FileContent)) (s t : Schema)
-        → ((f : FileContent) → Contains (sources batches) f → IsPlainFile f)
-        → SameFiles (sources batches) (sources others)
-        → IsTyped batches s.pool → IsTyped others t.pool → IsKept s.pool → IsKept t.pool
+        → HaveSameFiles batches others s t
         → (name bytes a b : List ℕ) → AreBytes bytes → Decoded s.pool name bytes a
         → Decoded t.pool name bytes b → a ≡ b }
 {}

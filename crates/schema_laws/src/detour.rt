@@ -1,8 +1,9 @@
 //! Laws of the detour that a schema of sources takes through its own set, each the contract of a
 //! function that does nothing. `IsMadeOf batches s` says that a schema without files became `s`
-//! where these sources were added, and `SetLinked empty_pool bytes p` what `from_descriptor_set`
-//! promises where it answers. A set is bytes, no more than a length can say.
-ghost use Rattle.std.specs.Prelude.{◌≡◌, ◌<◌, ◌^◌, ◌⊎◌, ℕ, List, Option, length, map, true};
+//! where these sources were added, `SetRefused empty_pool bytes e` what `from_descriptor_set`
+//! promises where it refuses a set, and `IsDetour batches s t` that `t` is what it answers for the
+//! own set of `s`. A set is bytes, no more than a length can say.
+ghost use Rattle.std.specs.Prelude.{◌≡◌, ◌<◌, ◌^◌, ℕ, List, Option, length, map};
 ghost use Rattle.descriptor_records.specs.Content.{file_view};
 ghost use Rattle.descriptor_records.specs.declared.file.FileDescriptorProto.{FileDescriptorProto};
 ghost use Rattle.message_view.specs.Types.{types_of};
@@ -10,8 +11,6 @@ ghost use Rattle.protobuf_model.specs.Types.{Name};
 ghost use Rattle.protobuf_model.specs.Values.{Message};
 ghost use Rattle.reflect_build.specs.Refusals.{AreTooMany};
 ghost use Rattle.reflect_bytes.specs.Written.{pool_bytes};
-ghost use Rattle.reflect_passes.specs.Errors.{is_memory};
-ghost use Rattle.reflect_passes.specs.declared.error.DescriptorError.{DescriptorError};
 ghost use Rattle.reflect_pool.specs.Linked.{empty_pool};
 ghost use Rattle.reflect_wire.specs.Written.{AreBytes};
 ghost use Rattle.reflect_wire.specs.declared.wire_error.WireError.{WireError};
@@ -20,39 +19,30 @@ ghost use Rattle.text_error.specs.declared.error.ParseErrorKind.{ParseErrorKind}
 ghost use Rattle.text_error.specs.declared.error.ParseErrorKind.TheVariants as kinds;
 ghost use Rattle.text_view.specs.Schemas.{schema_of};
 ghost use Rattle.schema_core.specs.Payloads.{Decoded, Encoded, Recoded};
-ghost use Rattle.schema_core.specs.Refusals.{IsNoMessage, IsNoSet, IsNoText, SetLinked, SetRefused};
-ghost use Rattle.schema_core.specs.declared.error.SchemaError.TheVariants.{Link};
+ghost use Rattle.schema_core.specs.Refusals.{IsNoMessage, IsNoText, SetRefused};
+ghost use Rattle.schema_core.specs.declared.error.SchemaError.{SchemaError};
 ghost use Rattle.schema_core.specs.declared.schema.Schema.{Schema};
-ghost use Rattle.schema_laws.specs.Sources.{IsMadeOf, IsPool};
+ghost use Rattle.schema_laws.specs.Sources.{IsDetour, IsMadeOf, SourceBatches, TellsMemory};
 
-/// The set is read, and its files link, unless memory runs out or they are too many.
-pub fn own_sets_are_read_and_linked()
-    ensures read { (batches : List (List (List ℕ × List ℕ))) (s : Schema) → IsMadeOf batches s
-        → length (pool_bytes s.pool) < 2 ^ 64
-        → (e : WireError) → IsNoSet (pool_bytes s.pool) e → ⊥ }
-    ensures linked { (batches : List (List (List ℕ × List ℕ))) (s : Schema) → IsMadeOf batches s
-        → length (pool_bytes s.pool) < 2 ^ 64
-        → (e : DescriptorError) → SetRefused empty_pool (pool_bytes s.pool) (Link e)
-        → (is_memory e.first ≡ true)
-        ⊎ ((files : List FileDescriptorProto)
-        × (map file_view files ≡ map file_view s.pool.records) × AreTooMany empty_pool files) }
+/// The set is not refused, unless memory runs out, or its files declare more together than one batch
+/// may.
+pub fn own_sets_are_not_refused()
+    ensures { (batches : SourceBatches) (s : Schema) → IsMadeOf batches s
+        → AreBytes (pool_bytes s.pool) → length (pool_bytes s.pool) < 2 ^ 64
+        → (e : SchemaError) → (TellsMemory e → ⊥) → SetRefused empty_pool (pool_bytes s.pool) e
+        → (files : List FileDescriptorProto)
+        × (map file_view files ≡ map file_view s.pool.records) × AreTooMany empty_pool files }
 {}
 
 /// The schema of the set has the records that were written, so that its own set is the same; it has
 /// the same types, and says the same to texts.
 pub fn own_sets_give_the_same_schema()
-    ensures records { (batches : List (List (List ℕ × List ℕ))) (s t : Schema)
-        → IsMadeOf batches s → IsPool t.pool
-        → AreBytes (pool_bytes s.pool) → length (pool_bytes s.pool) < 2 ^ 64
-        → SetLinked empty_pool (pool_bytes s.pool) t.pool
+    ensures records { (batches : SourceBatches) (s t : Schema)
+        → IsDetour batches s t → AreBytes (pool_bytes s.pool)
         → map file_view t.pool.records ≡ map file_view s.pool.records }
-    ensures types { (batches : List (List (List ℕ × List ℕ))) (s t : Schema)
-        → IsMadeOf batches s → IsPool t.pool → length (pool_bytes s.pool) < 2 ^ 64
-        → SetLinked empty_pool (pool_bytes s.pool) t.pool
+    ensures types { (batches : SourceBatches) (s t : Schema) → IsDetour batches s t
         → types_of t.pool ≡ types_of s.pool }
-    ensures names { (batches : List (List (List ℕ × List ℕ))) (s t : Schema)
-        → IsMadeOf batches s → IsPool t.pool → length (pool_bytes s.pool) < 2 ^ 64
-        → SetLinked empty_pool (pool_bytes s.pool) t.pool
+    ensures names { (batches : SourceBatches) (s t : Schema) → IsDetour batches s t
         → (decoded : Name → List ℕ → Option Message)
         → schema_of t.pool decoded ≡ schema_of s.pool decoded }
 {}
@@ -60,19 +50,13 @@ pub fn own_sets_give_the_same_schema()
 /// So both recode bytes to the same, and neither refuses what the other recodes, unless memory runs
 /// out.
 pub fn schemas_of_own_sets_recode_alike()
-    ensures same { (batches : List (List (List ℕ × List ℕ))) (s t : Schema)
-        → IsMadeOf batches s → IsPool t.pool → length (pool_bytes s.pool) < 2 ^ 64
-        → SetLinked empty_pool (pool_bytes s.pool) t.pool
+    ensures same { (batches : SourceBatches) (s t : Schema) → IsDetour batches s t
         → (name bytes a b : List ℕ) → AreBytes bytes → Recoded s.pool name bytes a
         → Recoded t.pool name bytes b → a ≡ b }
-    ensures first { (batches : List (List (List ℕ × List ℕ))) (s t : Schema)
-        → IsMadeOf batches s → IsPool t.pool → length (pool_bytes s.pool) < 2 ^ 64
-        → SetLinked empty_pool (pool_bytes s.pool) t.pool
+    ensures first { (batches : SourceBatches) (s t : Schema) → IsDetour batches s t
         → (name bytes out : List ℕ) (e : WireError) → (e ≡ wire.Memory → ⊥) → AreBytes bytes
         → Recoded s.pool name bytes out → IsNoMessage t.pool name bytes e → ⊥ }
-    ensures second { (batches : List (List (List ℕ × List ℕ))) (s t : Schema)
-        → IsMadeOf batches s → IsPool t.pool → length (pool_bytes s.pool) < 2 ^ 64
-        → SetLinked empty_pool (pool_bytes s.pool) t.pool
+    ensures second { (batches : SourceBatches) (s t : Schema) → IsDetour batches s t
         → (name bytes out : List ℕ) (e : WireError) → (e ≡ wire.Memory → ⊥) → AreBytes bytes
         → Recoded t.pool name bytes out → IsNoMessage s.pool name bytes e → ⊥ }
 {}
@@ -80,28 +64,20 @@ pub fn schemas_of_own_sets_recode_alike()
 /// Both encode a text to the same bytes, and neither refuses one that the other encodes, unless
 /// memory runs out.
 pub fn schemas_of_own_sets_encode_alike()
-    ensures same { (batches : List (List (List ℕ × List ℕ))) (s t : Schema)
-        → IsMadeOf batches s → IsPool t.pool → length (pool_bytes s.pool) < 2 ^ 64
-        → SetLinked empty_pool (pool_bytes s.pool) t.pool
+    ensures same { (batches : SourceBatches) (s t : Schema) → IsDetour batches s t
         → (name text a b : List ℕ) → Encoded s.pool name text a → Encoded t.pool name text b
         → a ≡ b }
-    ensures first { (batches : List (List (List ℕ × List ℕ))) (s t : Schema)
-        → IsMadeOf batches s → IsPool t.pool → length (pool_bytes s.pool) < 2 ^ 64
-        → SetLinked empty_pool (pool_bytes s.pool) t.pool
+    ensures first { (batches : SourceBatches) (s t : Schema) → IsDetour batches s t
         → (name text out : List ℕ) (kind : ParseErrorKind) → (kind ≡ kinds.Memory → ⊥)
         → Encoded s.pool name text out → IsNoText t.pool name text kind → ⊥ }
-    ensures second { (batches : List (List (List ℕ × List ℕ))) (s t : Schema)
-        → IsMadeOf batches s → IsPool t.pool → length (pool_bytes s.pool) < 2 ^ 64
-        → SetLinked empty_pool (pool_bytes s.pool) t.pool
+    ensures second { (batches : SourceBatches) (s t : Schema) → IsDetour batches s t
         → (name text out : List ℕ) (kind : ParseErrorKind) → (kind ≡ kinds.Memory → ⊥)
         → Encoded t.pool name text out → IsNoText s.pool name text kind → ⊥ }
 {}
 
 /// And both print the same text of bytes.
 pub fn schemas_of_own_sets_decode_alike()
-    ensures { (batches : List (List (List ℕ × List ℕ))) (s t : Schema)
-        → IsMadeOf batches s → IsPool t.pool → length (pool_bytes s.pool) < 2 ^ 64
-        → SetLinked empty_pool (pool_bytes s.pool) t.pool
+    ensures { (batches : SourceBatches) (s t : Schema) → IsDetour batches s t
         → (name bytes a b : List ℕ) → AreBytes bytes → Decoded s.pool name bytes a
         → Decoded t.pool name bytes b → a ≡ b }
 {}

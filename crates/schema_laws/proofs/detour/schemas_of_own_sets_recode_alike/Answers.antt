@@ -4,13 +4,13 @@ use Rattle.schema_laws.proofs.Recoding.{accepted_alike, recoded_alike}
 use Rattle.schema_laws.proofs.detour.schemas_of_own_sets_recode_alike.Goals as goal
 
 pub returns-clause-same : goal.returns-clause-same
-returns-clause-same c = λ batches s t is pool short read.
-    recoded_alike s.pool t.pool s.sound t.sound (sym (same_types batches s t is pool short read))
+returns-clause-same c = λ batches s t is.
+    recoded_alike s.pool t.pool s.sound t.sound (sym (same_types batches s t is))
 
 pub returns-clause-first : goal.returns-clause-first
-returns-clause-first c = λ batches s t is pool short read.
-    accepted_alike s.pool t.pool s.sound t.sound (sym (same_types batches s t is pool short read))
+returns-clause-first c = λ batches s t is.
+    accepted_alike s.pool t.pool s.sound t.sound (sym (same_types batches s t is))
 
 pub returns-clause-second : goal.returns-clause-second
-returns-clause-second c = λ batches s t is pool short read.
-    accepted_alike t.pool s.pool t.sound s.sound (same_types batches s t is pool short read)
+returns-clause-second c = λ batches s t is.
+    accepted_alike t.pool s.pool t.sound s.sound (same_types batches s t is)

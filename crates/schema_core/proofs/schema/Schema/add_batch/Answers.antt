@@ -7,7 +7,7 @@ use Rattle.linked_messages.proofs.Stays.{settled_sound}
 use Rattle.option_parts.specs.Places.{option_place}
 use Rattle.option_setter.specs.OptionNames.{UnlessMemory}
 use Rattle.reflect_options.specs.Settling.{RefusesFrom, SettlesPool}
-use Rattle.schema_core.specs.Refusals.{FilesFit}
+use Rattle.schema_core.specs.Refusals.{FilesFit, IsPool}
 use Rattle.schema_core.proofs.Refused.{of_link, refused_options}
 use Rattle.schema_core.proofs.schema.Schema.add_batch.Goals as goal
 use Rattle.schema_core.proofs.schema.Schema.add_batch.Goals.{then-is_err, else-is_err}
@@ -27,7 +27,13 @@ returns-in_err-settled-clause-err c =
     let e = c.in_err-settled.field-0.0 in
     let from_mark = subst (λ s. IfErr s (λ f. UnlessMemory (RefusesFrom linked c.mark-mark.result (option_place f)) f.kind)) c.in_err-settled.was c.resolve_options-settled.ensures.refused in
     let refused = subst (λ n. UnlessMemory (RefusesFrom linked n (option_place e)) e.kind) c.mark-mark.ensures from_mark in
-    rw (p.1, p.2) (refused_options old c.args.files.items linked e e.kind refl fit refused)
+    let pool : IsPool linked = record {
+      recorded = c.pools_are_recorded.ensures;
+      indexed = c.pools_are_indexed.ensures;
+      kept = c.pools_are_linked.ensures;
+    } in
+    let sound = accepted_sound old linked c.copy_typed_options.new.files.items c.args.self.now.sound pool.kept c.in_ok-build_files.ensures.accepted in
+    rw (p.1, p.2) (refused_options old c.args.files.items linked e e.kind refl fit pool sound refused)
 
 pub returns-clause-linked : goal.returns-clause-linked
 returns-clause-linked c =

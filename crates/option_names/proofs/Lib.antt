@@ -1,0 +1,10 @@
+pub mod Built
+pub mod Seen
+pub mod Placed
+pub mod Entries
+pub mod LooksUp
+pub mod Pool
+pub mod OneName
+pub mod Numbers
+pub mod Led
+pub mod Leads

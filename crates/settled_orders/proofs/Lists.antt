@@ -1,0 +1,25 @@
+-- What stands at a place of a list that was made of two, or seen through a function.
+use Rattle.std.proofs.Common.{◌≡◌, ◌≤◌, ◌<◌, ◌++◌, ◌∙◌, ℕ, zero, suc, List, [], ◌∷◌, map, length, Some, slice_get, ap, refl, sym, arith}
+use Rattle.reflect_index.proofs.Among.{get_map, got_map}
+
+-- in the first of two
+pub front_map : {A B : Type 0} (view : A → B) (xs ys : List A) (k : ℕ) → k < length xs → slice_get (map view (xs ++ ys)) k ≡ slice_get (map view xs) k
+front_map view [] ys k less = absurd (omega (arith, less))
+front_map view (x ∷ xs) ys zero less = refl
+front_map view (x ∷ xs) ys (suc k) less = front_map view xs ys k (omega (arith, less))
+
+-- in the second, whatever as many stand before it
+pub back_get : {A : Type 0} (xs us ys : List A) (k : ℕ) → length us ≡ length xs → length xs ≤ k → slice_get (xs ++ ys) k ≡ slice_get (us ++ ys) k
+back_get [] [] ys k same far = refl
+back_get [] (u ∷ us) ys k same far = absurd (omega (arith, same))
+back_get (x ∷ xs) [] ys k same far = absurd (omega (arith, same))
+back_get (x ∷ xs) (u ∷ us) ys zero same far = absurd (omega (arith, far))
+back_get (x ∷ xs) (u ∷ us) ys (suc k) same far = back_get xs us ys k (omega (arith, same)) (omega (arith, far))
+
+-- lists of which something is the same have something at the same places
+pub twin : {A B C : Type 0} (view : A → B) (told : A → C) (xs us : List A) → map told xs ≡ map told us → (k : ℕ) (y : B) → slice_get (map view xs) k ≡ Some y
+    → (z : B) × (slice_get (map view us) k ≡ Some z)
+twin view told xs us same k y there =
+    let x = got_map view xs k y there in
+    let u = got_map told us k (told x.0) (ap (λ ts. slice_get ts k) (sym same) ∙ get_map told xs k x.0 x.1) in
+    (view u.0, get_map view us k u.0 u.1)
