@@ -4,14 +4,14 @@ use Rattle.std.proofs.Common.{◌≡◌, ◌∙◌, inl, inr, ℕ, ℤ, List, []
 use Rattle.descriptor_records.specs.Content.{FileContent, OptionContent, OptionsContent, Text, option_view, options_view}
 use Rattle.descriptor_records.specs.declared.options.Options.{Options}
 use Rattle.message_view.specs.Sound.{IsSound}
-use Rattle.option_model.specs.SetOptions.{LeadAlike, Leads}
-use Rattle.option_model.proofs.OneMessage.{all_one}
-use Rattle.option_names.specs.Standing.{HaveOneEnd, StandsIn}
+use Rattle.option_orders.specs.SetOptions.{LeadAlike, Leads}
+use Rattle.option_orders.proofs.OneMessage.{all_one}
+use Rattle.option_orders.specs.Standing.{HaveOneEnd, StandsIn}
 use Rattle.option_parts.specs.OptionTypes.{CanRead, ReadsOptions, type_name}
 use Rattle.option_parts.specs.declared.option_scope.OptionScope.{OptionScope}
 use Rattle.option_parts.specs.declared.option_scope.OptionScope.TheVariants as scopes
 use Rattle.option_setter.specs.declared.option_setter.NameScope.{NameScope}
-use Rattle.option_view.specs.NamedNumbers.{numbers_named}
+use Rattle.option_orders.specs.NamedNumbers.{numbers_named}
 use Rattle.plain_records.specs.SourceOptions.{AreAsRead, AreGiven, HaveSmallNumbers, as_read, of_entries}
 use Rattle.protobuf_model.specs.Bytes.{bytes_of}
 use Rattle.protobuf_model.specs.Types.{Name}

@@ -8,15 +8,15 @@ use Rattle.growing_texts.proofs.Files.{back, built_entries, files_say_all}
 use Rattle.known_messages.specs.KnownMessages.{KnowsAll}
 use Rattle.known_messages.proofs.Written.{known_alike}
 use Rattle.message_view.specs.Sound.{IsSound}
-use Rattle.option_model.specs.SetOptions.{Leads, SetsAll}
-use Rattle.option_model.proofs.Growing.{all_stay}
-use Rattle.option_names.specs.Standing.{StandsIn}
-use Rattle.option_orders.proofs.Growing.{called_declared, grows_further}
+use Rattle.option_orders.specs.SetOptions.{Leads, SetsAll}
+use Rattle.option_orders.proofs.SettingGrows.{all_stay}
+use Rattle.option_orders.specs.Standing.{StandsIn}
+use Rattle.option_orders.proofs.FurtherBatches.{called_declared, grows_further}
 use Rattle.option_parts.specs.OptionTypes.{CanRead, type_name}
 use Rattle.option_parts.specs.declared.option_scope.OptionScope.{OptionScope}
 use Rattle.option_setter.specs.declared.option_setter.NameScope.{NameScope}
-use Rattle.option_view.specs.NamedNumbers.{numbers_named}
-use Rattle.option_view.proofs.Sources.{sources_set}
+use Rattle.option_orders.specs.NamedNumbers.{numbers_named}
+use Rattle.option_orders.proofs.Sources.{sources_set}
 use Rattle.plain_records.specs.SourceOptions.{HaveSmallNumbers, as_read}
 use Rattle.protobuf_model.specs.Bytes.{bytes_of}
 use Rattle.protobuf_model.specs.Older.{IsOlder}

@@ -1,0 +1,3 @@
+pub mod SetOptions
+pub mod NamedNumbers
+pub mod Standing

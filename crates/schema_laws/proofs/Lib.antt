@@ -10,5 +10,10 @@ pub mod OwnSets
 pub mod MadeOf
 pub mod OwnRefused
 pub mod OwnSchemas
+pub mod Lists
+pub mod Front
+pub mod BatchFiles
 pub mod Histories
+pub mod OneFile
+pub mod SameRecords
 pub mod LaterTexts

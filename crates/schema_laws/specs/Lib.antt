@@ -3,3 +3,4 @@ pub mod Records
 pub mod Reprints
 pub mod Batches
 pub mod Sources
+pub mod Histories

@@ -1,3 +1,0 @@
-pub mod Growing
-pub mod Known
-pub mod OneMessage

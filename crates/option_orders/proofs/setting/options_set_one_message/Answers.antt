@@ -1,0 +1,19 @@
+use Rattle.std.proofs.Common.{◌≡◌, ℕ, Option, Some, sym, ◌∙◌}
+use Rattle.descriptor_records.specs.Content.{NameContent}
+use Rattle.option_orders.specs.SetOptions.{LeadAlike, leads_by}
+use Rattle.option_orders.proofs.OneMessage.{all_one, some_same}
+use Rattle.option_orders.proofs.setting.options_set_one_message.Goals as goal
+use Rattle.protobuf_model.specs.Types.{Name}
+
+one_lead : (lead : Name → NameContent → Option ℕ) → LeadAlike (leads_by lead) (leads_by lead)
+one_lead lead t part n k a b = some_same n k (sym a ∙ b)
+
+pub returns-clause-message : goal.returns-clause-message
+returns-clause-message c = λ w lead t os old new other paths others first second.
+    (all_one w (leads_by lead) (leads_by lead) (one_lead lead) t os old new other paths others first
+    second).0
+
+pub returns-clause-paths : goal.returns-clause-paths
+returns-clause-paths c = λ w lead t os old new other paths others first second.
+    (all_one w (leads_by lead) (leads_by lead) (one_lead lead) t os old new other paths others first
+    second).1

@@ -1,0 +1,141 @@
+-- A file that was linked to one content in two pools of the same files in the end settled to one content.
+use Rattle.std.proofs.Common.{◌≡◌, ◌<◌, ◌++◌, ◌∙◌, ℕ, List, [], ◌∷◌, map, length, None, Some, slice_get, ap, refl, sym, subst, arith, Contains}
+use Rattle.std.proofs.lemmas.List.{length-map}
+use Rattle.std.proofs.lemmas.List.Elements.{recursion_from_All}
+use Rattle.std.specs.List.{AllByRecursion, AllZip}
+use Rattle.std.specs.Option.{option_map}
+use Rattle.descriptor_records.specs.Content.{FileContent, Text, file_view, options_view}
+use Rattle.descriptor_records.specs.declared.file.FileDescriptorProto.{FileDescriptorProto}
+use Rattle.descriptor_records.specs.declared.options.Options.{Options}
+use Rattle.linked_view.proofs.Places.{get_less}
+use Rattle.option_orders.proofs.Alike.{given_alike}
+use Rattle.option_orders.proofs.Leads.{lead_alike}
+use Rattle.option_orders.specs.Standing.{HaveOneEnd, StandsIn}
+use Rattle.option_parts.specs.OptionTypes.{type_name}
+use Rattle.option_parts.specs.declared.option_scope.OptionScope.{OptionScope}
+use Rattle.option_setter.specs.declared.option_setter.NameScope.{NameScope}
+use Rattle.plain_records.specs.PlainRecords.{IsPlainFile}
+use Rattle.plain_records.specs.SourceOptions.{AreGiven}
+use Rattle.reflect_growth.proofs.Told.{header_seen, header_told}
+use Rattle.reflect_index.proofs.Among.{get_map}
+use Rattle.reflect_options.specs.Entities.{Entity, file_entities}
+use Rattle.reflect_options.specs.Settled.{Settles, StayAsTheyAre}
+use Rattle.reflect_options.specs.Settling.{IsScopeOf, SeesFrom}
+use Rattle.reflect_pool.specs.Dots.{without_dot}
+use Rattle.reflect_pool.specs.Imports.{names_of_files}
+use Rattle.reflect_pool.proofs.Places.{at_place}
+use Rattle.reflect_tables.specs.Finding.{IsFirst}
+use Rattle.reflect_tables.specs.Types.{FileType, MessageType, PoolType, no_type}
+use Rattle.reflect_tables.specs.Views.{record_file}
+use Rattle.schema_view.specs.Lawful.{Builds, SameFiles, sources}
+use Rattle.schema_view.specs.Plain.{IsPlainFile as HasPlainName}
+use Rattle.settled_again.specs.HeldOptions.{HasType}
+use Rattle.settled_alike.specs.Alike.{AllSettleAlike, IsSameEntity, SettleAlike}
+use Rattle.settled_alike.proofs.Moved.{some_is}
+use Rattle.settled_alike.proofs.Pools.{settle_alike}
+use Rattle.settled_alike.proofs.Walk.{same_entities}
+use Rattle.settled_options.proofs.Said.{no_dot}
+use Rattle.settled_records.proofs.AllOptions.{Said, file_keeps}
+use Rattle.settled_records.proofs.InEntities.{entities_of}
+use Rattle.settled_records.proofs.OfEntities.{Meets}
+use Rattle.settled_records.proofs.PlainOptions.{file_of, said}
+use Rattle.schema_laws.proofs.BatchFiles.{IsOneOf}
+
+-- ---- options of a file as sources gave it
+-- of the file of an index, and as a source gives them
+abbrev Own : ℕ → ℕ → Said
+Own k file scope path o = (file ≡ k) × AreGiven scope o
+
+own_entities : (k : ℕ) (f : FileDescriptorProto) → IsPlainFile AreGiven 99 (file_view f) → AllByRecursion (Meets (Own k)) (file_entities k f)
+own_entities k f given = entities_of (Own k) k f (file_keeps (said AreGiven) (Own k k) (λ scope path o as_given. (refl, as_given)) (file_view f) (file_of AreGiven 99 (file_view f) given))
+
+-- none stay as they are where there is a type for them
+types_settle : (p : PoolType) (scope : OptionScope) → HasType p scope → (s : NameScope) (o : Options) → s.pool.now ≡ p → StayAsTheyAre scope s o → ⊥
+types_settle p scope has s o is stay =
+    let here : IsFirst (λ (m : MessageType). m.full_name ≡ without_dot (type_name scope)) p.messages None =
+    subst (λ (q : PoolType). IsFirst (λ (m : MessageType). m.full_name ≡ without_dot (type_name scope)) q.messages None) is stay.0 in
+    let none : IsFirst (λ (m : MessageType). m.full_name ≡ type_name scope) p.messages None = subst (λ n. IsFirst (λ (m : MessageType). m.full_name ≡ n) p.messages None) (no_dot scope) here in
+    at_place (λ (m : MessageType). m.full_name ≡ type_name scope → ⊥) p.messages has.0 no_type
+    (recursion_from_All (λ (m : MessageType). m.full_name ≡ type_name scope → ⊥) p.messages none) has.1.0 (has.1.1.0 no_type)
+
+-- ---- the file's place
+module _ (batches : List (List FileContent)) (x y : FileContent) (a : IsOneOf batches x y) where
+  near : a.index < length a.pool.files
+  near =
+      let less : a.index < length a.pool.records = get_less a.pool.records a.index a.file a.there in
+      let many : length a.pool.files ≡ length a.pool.records = ap (λ (fs : List FileType). length fs) a.is.recorded.headers ∙ length-map a.pool.records record_file in
+      omega (arith, less, many)
+
+  named : slice_get (names_of_files a.pool.files) a.index ≡ Some (header_told x).name
+  named =
+      ap (λ (fs : List FileType). slice_get (names_of_files fs) a.index) a.is.recorded.headers
+      ∙ get_map (λ (f : FileType). f.name) (map record_file a.pool.records) a.index (record_file a.file) (get_map record_file a.pool.records a.index a.file a.there)
+      ∙ ap (λ (f : FileType). Some f.name) (header_seen a.file) ∙ ap (λ (c : FileContent). Some (header_told c).name) a.content
+
+  -- names in the options of its entities are looked up there
+  stands : (s : NameScope) (c : Entity) → c.file ≡ a.index → IsScopeOf a.pool c s → StandsIn a.own a.pool s (header_told x).name c.name
+  stands s c own scope = record {
+    typed = a.typed;
+    recorded = a.is.recorded;
+    indexed = a.is.indexed;
+    kept = a.is.kept;
+    index = a.index;
+    there = named;
+    in_pool = scope.pool;
+    seen = subst (λ k. SeesFrom a.pool k s.seen.now) own scope.seen;
+    name = scope.name;
+  }
+
+-- ---- in both pools
+module _ (batches others : List (List FileContent)) (after last : List FileContent) (plain : (f : FileContent) → Contains (sources batches) f → HasPlainName f)
+    (same : SameFiles (sources batches) (sources others)) (built : Builds batches after) (also : Builds others last) (x y z : FileContent) (a : IsOneOf batches x y) (b : IsOneOf others x z) where
+  ends : HaveOneEnd a.own b.own
+  ends = record {
+    more = a.more;
+    further = b.more;
+    after = after;
+    last = last;
+    built = subst (λ (bs : List (List FileContent)). Builds bs after) (sym a.behind) built;
+    also = subst (λ (bs : List (List FileContent)). Builds bs last) (sym b.behind) also;
+    plain = subst (λ (bs : List (List FileContent)). (f : FileContent) → Contains (sources bs) f → HasPlainName f) (sym a.behind) plain;
+    same = subst (λ (bs : List (List FileContent)). SameFiles (sources bs) (sources (b.more ++ b.own))) (sym a.behind)
+        (subst (λ (bs : List (List FileContent)). SameFiles (sources batches) (sources bs)) (sym b.behind) same);
+  }
+
+  content : file_view a.file ≡ file_view b.file
+  content = a.content ∙ sym b.content
+
+  entity_settles : (c d : Entity) → IsSameEntity c d → Meets (Own a.index) c → Meets (Own b.index) d → SettleAlike a.pool b.pool c d
+  entity_settles c d e own its = record {
+    here = λ o s has scope stay. types_settle a.pool c.scope (a.types c.scope) s o scope.pool stay;
+    there = λ o s has scope stay. types_settle b.pool d.scope (b.types d.scope) s o scope.pool stay;
+    alike = λ o w settled other s t paths ways has have scope range settles also_settles. (
+        let mine : (c.file ≡ a.index) × AreGiven c.scope (options_view o) = own o has in
+        let theirs : (d.file ≡ b.index) × AreGiven d.scope (options_view w) = its w have in
+        let one : options_view w ≡ options_view o =
+        some_is (options_view w) (options_view o) (sym (ap (option_map options_view) have) ∙ sym e.options ∙ ap (option_map options_view) has) in
+        let here : StandsIn a.own a.pool s (header_told x).name c.name = stands batches x y a s c mine.0 scope in
+        let there : StandsIn b.own b.pool t (header_told x).name c.name =
+        subst (λ (n : Text). StandsIn b.own b.pool t (header_told x).name n) (sym e.name) (stands others x z b t d theirs.0 range) in
+        let second : Settles c.scope t w (options_view other) ways = subst (λ (v : OptionScope). Settles v t w (options_view other) ways) (sym e.scope) also_settles in
+        given_alike a.own b.own a.pool b.pool s t (header_told x).name c.name c.scope o w settled other paths ways ends here there
+        (lead_alike a.own b.own a.pool b.pool s t (header_told x).name c.name ends here there)
+        a.sound b.sound a.names b.names (a.settles.readable c.scope) (b.settles.readable c.scope) mine.1 one settles second);
+  }
+
+  entities_settle : (cs ds : List Entity) → AllZip IsSameEntity cs ds → AllByRecursion (Meets (Own a.index)) cs → AllByRecursion (Meets (Own b.index)) ds → AllZip (SettleAlike a.pool b.pool) cs ds
+  entities_settle [] [] es own its = tt
+  entities_settle [] (d ∷ ds) es own its = absurd es
+  entities_settle (c ∷ cs) [] es own its = absurd es
+  entities_settle (c ∷ cs) (d ∷ ds) es own its = (entity_settles c d es.0 own.0 its.0, entities_settle cs ds es.1 own.1 its.1)
+
+  all_settle : AllSettleAlike a.pool b.pool a.index b.index a.file b.file
+  all_settle =
+      entities_settle (file_entities a.index a.file) (file_entities b.index b.file) (same_entities a.index b.index a.file b.file content)
+      (own_entities a.index a.file a.given) (own_entities b.index b.file b.given)
+
+  pub one_content : y ≡ z
+  one_content =
+      let r : slice_get (map file_view a.new.records) a.index ≡ slice_get (map file_view b.new.records) b.index =
+      settle_alike a.pool b.pool a.new b.new a.first b.first a.index b.index a.file b.file a.settles b.settles a.far (near batches x y a) b.far (near others x z b) a.there b.there content all_settle in
+      some_is y z (sym a.comes ∙ r ∙ b.comes)

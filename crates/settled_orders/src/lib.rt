@@ -1,4 +1,0 @@
-//! Laws of the records of pools that sources made, in whatever order. It has no code.
-#![tactic(auto)]
-
-pub mod laws;
