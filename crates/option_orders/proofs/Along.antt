@@ -10,7 +10,7 @@ use Rattle.message_view.proofs.Sound.{named}
 use Rattle.option_orders.specs.SetOptions as model
 use Rattle.option_setter.specs.SetOptions.{SetsParts}
 use Rattle.option_setter.specs.declared.option_setter.NameScope.{NameScope}
-use Rattle.protobuf_model.specs.Types.{Frame, Name, nested}
+use Rattle.protobuf_model.specs.Types.{Name, nested}
 use Rattle.protobuf_model.specs.Values.{Message, content, message}
 use Rattle.protox_lex.specs.Class.{Text}
 use Rattle.reflect_format.specs.Takes.{target_type}
@@ -70,7 +70,6 @@ module _ (s : NameScope) (decoded : Name → Text → Option Message) where
       let set = sets.4 in
       let lead = sets.6 in
       let n : ℕ = (target_type t).number in
-      let frame : Frame = frame_of (target_type t).group in
       let top : ℕ = suc (above levels) in
       let owns = named_owns s d sound.apart part t sets.5 (leads_whole t old left inner lead) in
       let kind = inner_kind top old sound fine t owns left inner lead in
@@ -78,15 +77,17 @@ module _ (s : NameScope) (decoded : Name → Text → Option Message) where
       parts_set o levels (next ∷ parts) inner set sets.1 (subst IsSound (sym kind.0) sound) (kind.0 ∙ at) sets.7
       (leads_fine top old sound fine t owns lead.one left inner lead).0 in (
         n,
-        target_field d t,
-        frame,
         called inner.descriptor,
+        record {
+          field = target_field d t;
+          frame = frame_of (target_type t).group;
+          led = record { of_type = d; target = t; written = part; in_pool = at; called = ap (λ p. name_at p d.index) at; same_part = refl; named = sets.5; number = refl };
+          declared = subst (λ p. types_of p (name_at p d.index) n ≡ Some (target_field d t)) at (named d.pool.now sound.names d.index n d.in_range ∙ target_there d sound.apart t owns);
+          alone = inner_label top old sound fine t owns left inner lead;
+          kind = inner_part top old sound fine t owns left inner lead ∙ ap (λ p. nested (frame_of (target_type t).group) (name_at p inner.descriptor.index)) at;
+        },
         view set,
         sets.1,
-        record { of_type = d; target = t; written = part; in_pool = at; called = ap (λ p. name_at p d.index) at; same_part = refl; named = sets.5; number = refl },
-        subst (λ p. types_of p (name_at p d.index) n ≡ Some (target_field d t)) at (named d.pool.now sound.names d.index n d.in_range ∙ target_there d sound.apart t owns),
-        inner_label top old sound fine t owns left inner lead,
-        inner_part top old sound fine t owns left inner lead ∙ ap (λ p. nested frame (name_at p inner.descriptor.index)) at,
         subst (λ m. model.SetsParts w leads o levels (called inner.descriptor) (map name_view (next ∷ parts)) m (view set) sets.1) (sym (inner_message top old sound fine t owns left inner lead)) below,
         subst (λ p. view new ≡ assign (types_of p (name_at p d.index)) n (content (message (view set))) (view old)) at
             (put_back top old sound fine t owns left inner lead set new sets.8 sets.9),

@@ -70,10 +70,11 @@ module _ (w : Schema) (leads : Leads) (values : HaveEntryValues w) where
   parts_known o levels [] t old new path all sets = subst (KnowsAll w.types t) (sym sets.0) all
   parts_known o levels (part ∷ []) t old new path all sets = last_known o t part old new path all sets
   parts_known o zero (part ∷ next ∷ parts) t old new path all sets = absurd sets
-  parts_known o (suc levels) (part ∷ next ∷ parts) t old new path all (n, f, frame, u, inner, rest, led, has, label, kind, sets, is, along) =
-      let held : KnowsHeld w.types (Some f) (old n) = subst (λ x. KnowsHeld w.types x (old n)) has (all n) in
-      let below = parts_known o levels (next ∷ parts) u (message_in (old n)) inner rest (inner_known w.types f frame u kind (old n) held) sets in
-      set_known w.types t n f has old new all (content (message inner)) (subst (λ k. KnowsContent w.types k (message inner)) (sym kind) below) (ap Some (sym is))
+  parts_known o (suc levels) (part ∷ next ∷ parts) t old new path all (n, u, into, inner, rest, sets, is, along) =
+      let f : Field = into.field in
+      let held : KnowsHeld w.types (Some f) (old n) = subst (λ x. KnowsHeld w.types x (old n)) into.declared (all n) in
+      let below = parts_known o levels (next ∷ parts) u (message_in (old n)) inner rest (inner_known w.types f into.frame u into.kind (old n) held) sets in
+      set_known w.types t n f into.declared old new all (content (message inner)) (subst (λ k. KnowsContent w.types k (message inner)) (sym into.kind) below) (ap Some (sym is))
 
   pub all_known : (t : Name) (os : List OptionContent) (old new : Message) (paths : List (List ℤ)) → KnowsAll w.types t old → SetsAll w leads t os old new paths
       → KnowsAll w.types t new

@@ -95,10 +95,10 @@ module _ (w : Schema) (a b : Leads) (alike : LeadAlike a b) where
   parts_one o levels [] t old new other path also first second = (first.0 ∙ sym second.0, first.1 ∙ sym second.1)
   parts_one o levels (part ∷ []) t old new other path also first second = last_one o t part old new other path also first second
   parts_one o zero (part ∷ next ∷ parts) t old new other path also first second = absurd first
-  parts_one o (suc levels) (part ∷ next ∷ parts) t old new other path also (n, f, frame, u, inner, rest, led, has, label, kind, sets, is, along) (k, g, tag, v, deep, more, leads, too, single, other_kind, also_sets, same, way) =
-      let numbers : k ≡ n = sym (alike t part n k led leads) in
-      through_one o levels (next ∷ parts) (parts_one o levels (next ∷ parts)) t n old new other path also (f, has, (frame, u, inner, rest, kind, sets, is, along))
-      (subst (Through b o levels (next ∷ parts) t old other also) numbers (g, too, (tag, v, deep, more, other_kind, also_sets, same, way)))
+  parts_one o (suc levels) (part ∷ next ∷ parts) t old new other path also (n, u, into, inner, rest, sets, is, along) (k, v, into_too, deep, more, also_sets, same, way) =
+      let numbers : k ≡ n = sym (alike t part n k into.led into_too.led) in
+      through_one o levels (next ∷ parts) (parts_one o levels (next ∷ parts)) t n old new other path also (into.field, into.declared, (into.frame, u, inner, rest, into.kind, sets, is, along))
+      (subst (Through b o levels (next ∷ parts) t old other also) numbers (into_too.field, into_too.declared, (into_too.frame, v, deep, more, into_too.kind, also_sets, same, way)))
 
   -- ---- one option after another
 

@@ -67,18 +67,20 @@ module _ (old_schema new_schema : Schema) (declared : Name → Bool) (all : Says
     parts_stay o levels [] t there old new path sets = sets
     parts_stay o levels (part ∷ []) t there old new path sets = last_stays o t there part old new path sets
     parts_stay o zero (part ∷ next ∷ parts) t there old new path sets = absurd sets
-    parts_stay o (suc levels) (part ∷ next ∷ parts) t there old new path (n, f, frame, u, inner, rest, led, has, label, kind, sets, is, along) = (
+    parts_stay o (suc levels) (part ∷ next ∷ parts) t there old new path (n, u, into, inner, rest, sets, is, along) = (
       n,
-      f,
-      frame,
       u,
+      record {
+        field = into.field;
+        frame = into.frame;
+        led = into.led;
+        declared = all.fields t n into.field there into.declared;
+        alone = into.alone;
+        kind = into.kind;
+      },
       inner,
       rest,
-      led,
-      all.fields t n f there has,
-      label,
-      kind,
-      parts_stay o levels (next ∷ parts) u (all.inside t n f frame u there has kind) _ inner rest sets,
+      parts_stay o levels (next ∷ parts) u (all.inside t n into.field into.frame u there into.declared into.kind) _ inner rest sets,
       is ∙ assign_same (old_schema.types t) (new_schema.types t) (oneof_stays t there) n (content (message inner)) old,
       along,
     )

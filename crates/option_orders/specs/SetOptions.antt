@@ -50,6 +50,16 @@ SetsLast w leads o t part old new path =
     × Gets (w.types t) n f f.label c old new
     × (path ≡ number n ∷ place_in f.label n old)
 
+-- a part leads to a field that holds one message, of this type
+pub record LeadsInto (w : Schema) (leads : Leads) (t : Name) (part : NameContent) (n : ℕ)
+    (u : Name) : Type 0 where
+  pub field : Field
+  pub frame : Frame
+  pub led : leads t part n
+  pub declared : w.types t n ≡ Some field
+  pub alone : field.label ≡ one
+  pub kind : field.part.kind ≡ nested frame u
+
 -- the parts lead through messages, below the first of which so many levels may lie, along the path
 -- to what the option sets; a message that is not there yet is an empty one
 abbrev pub SetsParts : Schema → Leads → OptionContent → ℕ → Name → List NameContent
@@ -58,8 +68,7 @@ SetsParts w leads o levels t [] old new path = (new ≡ old) × (path ≡ [])
 SetsParts w leads o levels t (part ∷ []) old new path = SetsLast w leads o t part old new path
 SetsParts w leads o zero t (part ∷ next ∷ parts) old new path = ⊥
 SetsParts w leads o (suc levels) t (part ∷ next ∷ parts) old new path =
-    (n : ℕ) × (f : Field) × (frame : Frame) × (u : Name) × (inner : Message) × (rest : List ℤ)
-    × leads t part n × (w.types t n ≡ Some f) × (f.label ≡ one) × (f.part.kind ≡ nested frame u)
+    (n : ℕ) × (u : Name) × LeadsInto w leads t part n u × (inner : Message) × (rest : List ℤ)
     × SetsParts w leads o levels u (next ∷ parts) (message_in (old n)) inner rest
     × (new ≡ assign (w.types t) n (content (message inner)) old) × (path ≡ number n ∷ rest)
 
