@@ -7,6 +7,7 @@ pub mod Singles
 pub mod Orders
 pub mod Contents
 pub mod Rivals
+pub mod Unset
 pub mod Printing
 pub mod Numbers
 mod Examples

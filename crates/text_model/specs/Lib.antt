@@ -7,5 +7,6 @@ pub mod Forms
 pub mod Printed
 pub mod Identifiers
 pub mod Plain
+pub mod Unset
 pub mod Rendered
 pub mod Texts
