@@ -9,6 +9,8 @@ pub mod Contents
 pub mod Rivals
 pub mod Unset
 pub mod Printing
+pub mod Expansions
+pub mod Expanding
 pub mod Numbers
 mod Examples
 pub mod Leaves

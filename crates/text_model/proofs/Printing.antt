@@ -1,4 +1,4 @@
--- What a message is printed as gives the message.
+-- The fields that a message is printed as give the message.
 use Rattle.std.proofs.Common.{not, ◌≡◌, ◌⊎◌, inl, inr, ℕ, zero, suc, ◌==◌, ◌||◌, ◌&&◌, Bool, true, false, cond, List, [], ◌∷◌, ◌++◌, Option, None, Some, option_and_then, refl, sym, ap, ◌∙◌, subst}
 use Rattle.std.specs.List.{flat_map}
 use Rattle.std.proofs.lemmas.Bool.Decides.{eqb_tells}
@@ -26,7 +26,7 @@ abbrev pub entries_value : Schema → Shape → List (FieldName × Given) → Me
 entries_value w s [] m = Some m
 entries_value w s (e ∷ es) m = option_and_then (entries_value w s es) (named_value w s e.0 m (field_value w s e.1 m) (λ t. body_value w t e.1))
 
-last_value : (o : Option Message) → option_and_then (λ m. Some m) o ≡ o
+pub last_value : (o : Option Message) → option_and_then (λ m. Some m) o ≡ o
 last_value (Some m) = refl
 last_value None = refl
 
@@ -40,7 +40,7 @@ joined_value w s sep (e ∷ []) m = refl
 joined_value w s sep (e ∷ d ∷ es) m = more_value (named_value w s e.0 m (field_value w s e.1 m) (λ t. body_value w t e.1)) (value w s (joined sep (d ∷ es))) (entries_value w s (d ∷ es)) (λ m. joined_value w s sep (d ∷ es) m)
 
 -- the identifiers of a full name are it
-parts_written : (t : Text) → written (parts t) ≡ t
+pub parts_written : (t : Text) → written (parts t) ≡ t
 parts_written [] = refl
 parts_written (b ∷ bs) = by (eqb_tells b 46) (parts_written bs) where
   by : (((b == 46) ≡ true) × (b ≡ 46)) ⊎ (((b == 46) ≡ false) × (b ≡ 46 → ⊥)) → written (parts bs) ≡ bs → written (parts (b ∷ bs)) ≡ b ∷ bs
@@ -173,24 +173,3 @@ module _ (form : Form) (w : Schema) (told : form.defaults ≡ true → HaveReadD
         done = λ q e. elim (h.numbers q) [ inl a ↦ sym a | inr r ↦ absurd (true_false (has (printing_order form (w.names t) type) q) (order_has form (w.names t) type names.declared q r) e) ];
         todo = λ q e. refl;
       })
-
-cond_off : (b c : Bool) (o : Option Fields) → b ≡ false → cond (b && c) o None ≡ None
-cond_off true c o e = cc
-cond_off false c o e = refl
-
--- in such a form an Any is printed as its fields
-pub no_any : (form : Form) (w : Schema) (inner : Inner) (t : Name) (m : Message) → form.expands ≡ false → in_any form w inner t m ≡ None
-no_any form w inner t m unexpanded = cond_off form.expands (w.is_any t) _ unexpanded
-
-module _ (form : Form) (unexpanded : form.expands ≡ false) (w : Schema) (told : form.defaults ≡ true → HaveReadDefaults w.types) (inner : Inner) (names : HaveNames w) where
-  -- so are messages of so many levels
-  printed_by_back : (levels : ℕ) (t : Name) (m : Message) → IsTyped levels w.types t m → IsPlain w.types t m → value w (shape_of w t) (printed_by form w inner t m) nothing ≡ Some m
-  printed_by_back zero t m h b =
-      ap (λ o. value w (shape_of w t) (or_fields o (joined (between form.pretty) (printed_fields form w inner t m))) nothing) (no_any form w inner t m unexpanded)
-      ∙ fields_back form w told inner t (names.each t) (names.entries t) (λ u m. ⊥) zero (λ u m h b. absurd h) m h b
-  printed_by_back (suc levels) t m h b =
-      ap (λ o. value w (shape_of w t) (or_fields o (joined (between form.pretty) (printed_fields form w inner t m))) nothing) (no_any form w inner t m unexpanded)
-      ∙ fields_back form w told inner t (names.each t) (names.entries t) (IsTyped levels w.types) (suc levels) (printed_by_back levels) m h b
-
-pub printed_back : (form : Form) → form.expands ≡ false → (w : Schema) → HaveNames w → (form.defaults ≡ true → HaveReadDefaults w.types) → (t : Name) (m : Message) → IsTyped 100 w.types t m → IsPlain w.types t m → value w (shape_of w t) (printed form w t m) nothing ≡ Some m
-printed_back form unexpanded w names told t m h b = printed_by_back form unexpanded w told (λ u b. Some (printed_within 99 form w u b)) names 100 t m h b

@@ -1,4 +1,4 @@
--- What a message is printed as on one line is cut into its tokens again.
+-- What a message is printed as is cut into its tokens again.
 use Rattle.std.proofs.Common.{codes, ◌≡◌, ℕ, ℤ, zero, suc, pos, negsuc, ◌<◌, ◌^◌, ◌&&◌, not, Bool, true, false, cond, List, [], ◌∷◌, ◌++◌, Option, Some, None, FitsSigned, refl, sym, subst, arith}
 use Rattle.std.specs.Int.{w32, w64}
 use Rattle.std.specs.List.{flat_map, list_all, AllByRecursion}
@@ -12,21 +12,22 @@ use Rattle.protobuf_model.specs.Types as kinds
 use Rattle.protobuf_model.specs.Scalars.{Suits}
 use Rattle.protobuf_model.specs.Coded.{SuitsType}
 use Rattle.protobuf_model.specs.Typed.{IsOf, IsEntryOf, IsFieldOf, IsHeldOf, IsTypedBy, IsTyped}
-use Rattle.text_model.specs.Tree.{one_scalar, FieldName, plain, extension, no_separator, Given, Fields, no_fields}
+use Rattle.text_model.specs.Tree.{one_scalar, FullName, FieldName, plain, extension, no_separator, Given, Fields, no_fields}
 use Rattle.text_model.specs.Tokens.{fields_tokens}
 use Rattle.text_model.specs.Forms.{Form, between}
 use Rattle.text_model.specs.Schemas.{Names, Schema}
 use Rattle.text_model.specs.Printed.{Inner, or_fields, joined, parts, field_name, lacks_presence, default_given, unset, natural, whole, named, printed_single, value_in, printed_content, printed_list, printed_entries, printed_held, printed_fields, printed_by, printed_within, printed, printing_order}
 use Rattle.text_model.specs.Plain.{AreBytes, IsPlainContent, ArePlainContents, ArePlainEntries, IsPlainHeld, IsPlain}
+use Rattle.text_model.specs.Expansions.{HasOneForm, HoldsOneForm}
 use Rattle.text_model.specs.Unset.{IsOfKind, HasReadDefault, HaveReadDefaults}
 use Rattle.text_model.specs.Identifiers.{is_identifier, is_full_name, AreIdentifiers, HaveIdentifiers}
 use Rattle.text_model.specs.Rendered.{compact, pretty, text_of}
 use Rattle.text_model.specs.Texts.{Spells}
 use Rattle.text_model.proofs.Leaves.{Lexed}
-use Rattle.text_model.proofs.Printing.{no_any}
+use Rattle.text_model.proofs.Expansions.{IsExpansion, all_printed}
 use Rattle.text_model.proofs.Utf8.{utf8_small}
 use Rattle.text_model.proofs.Pretty.{pretty_lexed}
-use Rattle.text_model.proofs.Written.{IsBetween, IsCleanScalar, IsNameShown, IsValueShown, AreValuesShown, IsGivenShown, AreShown, shown_lexed}
+use Rattle.text_model.proofs.Written.{IsBetween, IsCleanScalar, IsFullNameShown, IsNameShown, IsValueShown, AreValuesShown, IsGivenShown, AreShown, shown_lexed}
 
 -- ---- single values
 
@@ -91,6 +92,9 @@ each_identifier : (ws : List Text) → list_all is_identifier ws ≡ true → Al
 each_identifier [] h = tt
 each_identifier (w ∷ ws) h = let p = and_parts (is_identifier w) (list_all is_identifier ws) h in (p.0, each_identifier ws p.1)
 
+full_name_shown : (n : FullName) → is_full_name n ≡ true → IsFullNameShown n
+full_name_shown n h = let p = and_parts (is_identifier n.first) (list_all is_identifier n.others) h in (p.0, each_identifier n.others p.1)
+
 name_shown : (names : Names) (n : ℕ) (f : Field) → cond f.extension (is_full_name (parts (names.name n))) (is_identifier (names.name n)) ≡ true → IsNameShown (field_name names n f)
 name_shown names n f h = by (f.extension) refl h where
   by : (b : Bool) → f.extension ≡ b → cond f.extension (is_full_name (parts (names.name n))) (is_identifier (names.name n)) ≡ true → IsNameShown (cond f.extension (extension (parts (names.name n))) (plain (names.name n)))
@@ -98,8 +102,8 @@ name_shown names n f h = by (f.extension) refl h where
       subst (λ b. IsNameShown (cond b (extension (parts (names.name n))) (plain (names.name n)))) (sym e)
       (subst (λ b. cond b (is_full_name (parts (names.name n))) (is_identifier (names.name n)) ≡ true) e h)
   by true e h =
-      let p = and_parts (is_identifier (parts (names.name n)).first) (list_all is_identifier (parts (names.name n)).others) (subst (λ b. cond b (is_full_name (parts (names.name n))) (is_identifier (names.name n)) ≡ true) e h) in
-      subst (λ b. IsNameShown (cond b (extension (parts (names.name n))) (plain (names.name n)))) (sym e) (p.0, each_identifier (parts (names.name n)).others p.1)
+      subst (λ b. IsNameShown (cond b (extension (parts (names.name n))) (plain (names.name n)))) (sym e)
+      (full_name_shown (parts (names.name n)) (subst (λ b. cond b (is_full_name (parts (names.name n))) (is_identifier (names.name n)) ≡ true) e h))
 
 all_append : (p : Bool) (a b : List (FieldName × Given)) → AllByRecursion (IsEntryShown p) a → AllByRecursion (IsEntryShown p) b → AllByRecursion (IsEntryShown p) (a ++ b)
 all_append p [] b h k = k
@@ -172,14 +176,10 @@ module _ (form : Form) (w : Schema) (told : form.defaults ≡ true → HaveReadD
         joined_shown form.pretty (printed_fields form w inner t m) (all_of form.pretty (λ n. printed_held form w inner (w.names t) n (w.types t n) (m n)) (printing_order form (w.names t) (w.types t))
         (λ n. held_shown levels n (w.types t n) refl (m n) (h.contents n) (b n)))
 
-module _ (form : Form) (unexpanded : form.expands ≡ false) (w : Schema) (told : form.defaults ≡ true → HaveReadDefaults w.types) (inner : Inner) (a : HaveIdentifiers w) where
-  shown_by : (levels : ℕ) (t : Name) (m : Message) → IsTyped levels w.types t m → IsPlain w.types t m → AreShown form.pretty (printed_by form w inner t m)
-  shown_by zero t m h b =
-      subst (λ o. AreShown form.pretty (or_fields o (joined (between form.pretty) (printed_fields form w inner t m)))) (sym (no_any form w inner t m unexpanded))
-      (fields_shown form w told inner (λ u m. ⊥) (λ u m h b. absurd h) t (a t) zero m h b)
-  shown_by (suc levels) t m h b =
-      subst (λ o. AreShown form.pretty (or_fields o (joined (between form.pretty) (printed_fields form w inner t m)))) (sym (no_any form w inner t m unexpanded))
-      (fields_shown form w told inner (IsTyped levels w.types) (shown_by levels) t (a t) (suc levels) m h b)
+expansion_shown : (form : Form) (w : Schema) (inner : Inner) (t : Name) (m : Message) (fs : Fields) (e : IsExpansion form w inner t m fs) → HoldsOneForm w t m e.url e.type e.held → AreShown form.pretty e.given → AreShown form.pretty fs
+expansion_shown form w inner t m fs e its shown =
+    subst (AreShown form.pretty) (sym e.same)
+    ((full_name_shown (parts e.url.0) its.domain, full_name_shown (parts e.url.1) its.name), shown, last_is form.pretty, tt)
 
 -- fields that are printed are cut into again
 tree_lexed : (form : Form) (fs : Fields) → AreShown form.pretty fs → Lexed (text_of form fs) (fields_tokens fs)
@@ -188,8 +188,12 @@ tree_lexed form fs = by form.pretty where
   by true c = pretty_lexed fs c
   by false c = shown_lexed fs c
 
-pub text_spelled : (form : Form) → form.expands ≡ false → (w : Schema) → HaveIdentifiers w → (form.defaults ≡ true → HaveReadDefaults w.types) → (t : Name) (m : Message) → SuitsType w.types t m → IsPlain w.types t m → Spells (text_of form (printed form w t m)) (printed form w t m)
-text_spelled form unexpanded w a told t m h b =
+pub text_spelled : (form : Form) (w : Schema) → HaveIdentifiers w → (form.defaults ≡ true → HaveReadDefaults w.types) → (t : Name) (m : Message) → SuitsType w.types t m → IsPlain w.types t m → (form.expands ≡ true → HasOneForm 100 w t m)
+    → Spells (text_of form (printed form w t m)) (printed form w t m)
+text_spelled form w a told t m h b forms =
     let tree = printed form w t m in
-    let shown = shown_by form unexpanded w told (λ u b. Some (printed_within 99 form w u b)) a 100 t m h b in
+    let shown : AreShown form.pretty tree = all_printed form w (λ t m fs. AreShown form.pretty fs)
+    (λ inner typed shown levels t m h b. fields_shown form w told inner typed shown t (a t) levels m h b)
+    (λ inner t m fs e its shown. expansion_shown form w inner t m fs e its shown)
+    t m h b forms in
     record { lexemes = lexemes (text_of form tree); cut = all_longest 0 (text_of form tree); tokens = (tree_lexed form tree shown).cut 0 }

@@ -8,5 +8,6 @@ pub mod Printed
 pub mod Identifiers
 pub mod Plain
 pub mod Unset
+pub mod Expansions
 pub mod Rendered
 pub mod Texts
