@@ -9,7 +9,7 @@ use Rattle.protobuf_model.specs.Values.{Message, nothing}
 use Rattle.text_model.specs.Expansions.{HasOneForm, HoldsOneForm}
 use Rattle.text_model.specs.Forms.{Form}
 use Rattle.text_model.specs.Plain.{IsPlain}
-use Rattle.text_model.specs.Printed.{Inner, bytes_in, expanded_as, last_slash, parts, printed, text_in}
+use Rattle.text_model.specs.Printed.{Inner, last_slash, parts, printed, text_in}
 use Rattle.text_model.specs.Schemas.{Schema, Shape, shape_of, HaveNames}
 use Rattle.text_model.specs.Tree.{Fields, curly, one_message}
 use Rattle.text_model.specs.Unset.{HaveReadDefaults}
@@ -18,7 +18,7 @@ use Rattle.text_model.proofs.Expansions.{IsExpansion, all_printed}
 use Rattle.text_model.proofs.Printing.{fields_back, last_value, parts_written}
 
 -- a URL is what stands before its last slash, and what stands behind it
-slash_whole : (z : Text) (p : Text × Text) → last_slash z ≡ Some p → p.0 ++ 47 ∷ p.1 ≡ z
+pub slash_whole : (z : Text) (p : Text × Text) → last_slash z ≡ Some p → p.0 ++ 47 ∷ p.1 ≡ z
 slash_whole [] p e = absurd (cc e)
 slash_whole (b ∷ bs) p e = by (slash_whole bs) (last_slash bs) refl (b == 47) refl where
   slash_in : Option (Text × Text) → Bool → Option (Text × Text)
@@ -42,8 +42,8 @@ expansion_back form w inner t m fs e h back =
     ∙ ap₂ of_url (parts_written e.url.0) (parts_written e.url.1)
     ∙ ap (option_and_then (of_type e.url.0 e.url.1)) e.known
     ∙ ap (option_and_then (of_message e.url.0 e.url.1 e.type)) back
-    ∙ ap (λ b. cond b (hold s (e.url.0 ++ 47 ∷ e.url.1) (bytes_of w.types e.type e.held) nothing) None) (lt-ltb (length (bytes_of w.types e.type e.held)) (2 ^ 64) (subst (λ z. length z < 2 ^ 64) h.bytes h.small))
-    ∙ ap₂ (λ x y. hold s x y nothing) (slash_whole (text_in (m 1)) e.url e.slash) (sym h.bytes)
+    ∙ ap (λ b. cond b (hold s (e.url.0 ++ 47 ∷ e.url.1) (bytes_of w.types e.type e.held) nothing) None) (lt-ltb (length (bytes_of w.types e.type e.held)) (2 ^ 64) h.small)
+    ∙ ap (λ z. hold s z (bytes_of w.types e.type e.held) nothing) (slash_whole (text_in (m 1)) e.url e.slash)
     ∙ h.alone where
       s : Shape
       s = shape_of w t

@@ -19,12 +19,14 @@ pub record IsExpansion (form : Form) (w : Schema) (inner : Inner) (t : Name) (m 
   pub expands : form.expands ≡ true
   pub any : w.is_any t ≡ true
   pub url : Text × Text
+  pub bytes : Text
   pub type : Name
   pub held : Message
   pub given : Fields
   pub slash : last_slash (text_in (m 1)) ≡ Some url
   pub known : w.message url.1 ≡ Some type
-  pub decoded : w.decoded type (bytes_in (m 2)) ≡ Some held
+  pub there : bytes_in (m 2) ≡ Some bytes
+  pub decoded : w.decoded type bytes ≡ Some held
   pub inside : inner type held ≡ Some given
   pub same : fs ≡ expanded_as url given
 
@@ -32,10 +34,10 @@ mapped_some : {X Y : Type 0} (f : X → Y) (o : Option X) (y : Y) → option_map
 mapped_some f None y e = absurd (cc e)
 mapped_some f (Some x) y e = (x, refl, ap (λ o. unwrap_or o y) (sym e))
 
-expansion_of : (form : Form) (w : Schema) (inner : Inner) (t : Name) (m : Message) (fs : Fields) → in_any form w inner t m ≡ Some fs → IsExpansion form w inner t m fs
+pub expansion_of : (form : Form) (w : Schema) (inner : Inner) (t : Name) (m : Message) (fs : Fields) → in_any form w inner t m ≡ Some fs → IsExpansion form w inner t m fs
 expansion_of form w inner t m fs e = by (form.expands && w.is_any t) refl where
   as_url : Text × Text → Option Fields
-  as_url url = option_map (expanded_as url) (held_in w inner url.1 (bytes_in (m 2)))
+  as_url url = option_map (expanded_as url) (option_and_then (held_in w inner url.1) (bytes_in (m 2)))
 
   found : Option Fields
   found = option_and_then as_url (last_slash (text_in (m 1)))
@@ -46,23 +48,34 @@ expansion_of form w inner t m fs e = by (form.expands && w.is_any t) refl where
       let both = and_parts form.expands (w.is_any t) is in
       option_and_then_some as_url (last_slash (text_in (m 1))) fs (sym (ap (λ b. cond b found None) is) ∙ e)
       (λ url slash its.
-          let given = mapped_some (expanded_as url) (held_in w inner url.1 (bytes_in (m 2))) fs its in
-          option_and_then_some (λ u. option_and_then (inner u) (w.decoded u (bytes_in (m 2)))) (w.message url.1) given.0 given.1
-          (λ u known of_type.
-              option_and_then_some (inner u) (w.decoded u (bytes_in (m 2))) given.0 of_type
-              (λ held decoded inside. record {
-                expands = both.0;
-                any = both.1;
-                url = url;
-                type = u;
-                held = held;
-                given = given.0;
-                slash = slash;
-                known = known;
-                decoded = decoded;
-                inside = inside;
-                same = given.2;
-              })))
+          let given = mapped_some (expanded_as url) (option_and_then (held_in w inner url.1) (bytes_in (m 2))) fs its in
+          option_and_then_some (held_in w inner url.1) (bytes_in (m 2)) given.0 given.1
+          (λ bytes there of_bytes.
+              option_and_then_some (λ u. option_and_then (inner u) (w.decoded u bytes)) (w.message url.1) given.0 of_bytes
+              (λ u known of_type.
+                  option_and_then_some (inner u) (w.decoded u bytes) given.0 of_type
+                  (λ held decoded inside. record {
+                    expands = both.0;
+                    any = both.1;
+                    url = url;
+                    bytes = bytes;
+                    type = u;
+                    held = held;
+                    given = given.0;
+                    slash = slash;
+                    known = known;
+                    there = there;
+                    decoded = decoded;
+                    inside = inside;
+                    same = given.2;
+                  }))))
+
+-- none is, where no fields can be
+pub no_expansion : (form : Form) (w : Schema) (inner : Inner) (t : Name) (m : Message) → ((fs : Fields) → IsExpansion form w inner t m fs → ⊥) → in_any form w inner t m ≡ None
+no_expansion form w inner t m none = by (in_any form w inner t m) refl where
+  by : (o : Option Fields) → in_any form w inner t m ≡ o → o ≡ None
+  by None e = refl
+  by (Some fs) e = absurd (none fs (expansion_of form w inner t m fs e))
 
 -- a property of fields that are printed of a message, where it holds of its own fields if it does of the messages in it, and of an expansion if it does of what is held
 module _ (form : Form) (w : Schema) (Holds : Name → Message → Fields → Type 0)
@@ -97,7 +110,7 @@ module _ (form : Form) (w : Schema) (Holds : Name → Message → Fields → Typ
   within (suc more) t m h b =
       by_levels (λ u m. Some (printed_within more form w u m)) (IsOneForm (HasOneForm more w) w)
       (λ t m one fs e.
-          let its = one e.any e.url e.type e.held e.slash e.known e.decoded in
+          let its = one e.any e.url e.bytes e.type e.held e.slash e.known e.there e.decoded in
           expansion (λ u m. Some (printed_within more form w u m)) t m fs e its.0
           (subst (Holds e.type e.held) (ap (λ o. unwrap_or o e.given) e.inside) (within more e.type e.held its.2 its.1)))
       100 t m h b

@@ -13,6 +13,7 @@ pub mod Expansions
 pub mod Expanding
 pub mod Numbers
 mod Examples
+mod ExpandedExample
 pub mod Leaves
 pub mod Decimals
 pub mod Written

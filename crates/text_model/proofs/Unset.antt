@@ -47,7 +47,7 @@ module _ (type : ℕ → Option Field) (n : ℕ) (alone : oneof_of (type n) ≡ 
   none_shared None = refl
   none_shared (Some k) = refl
 
-  no_sibling : (q : ℕ) → rival type n q ≡ false
+  pub no_sibling : (q : ℕ) → rival type n q ≡ false
   no_sibling q =
       ap (λ o. not (q == n) && same_oneof o (oneof_of (type q))) alone
       ∙ ap (λ b. not (q == n) && b) (none_shared (oneof_of (type q)))

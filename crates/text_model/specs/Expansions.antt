@@ -18,23 +18,22 @@ EachSuits P zero types t m = P t m × IsTypedBy (λ u m. ⊥) zero (types t) m
 EachSuits P (suc levels) types t m =
     P t m × IsTypedBy (EachSuits P levels types) (suc levels) (types t) m
 
--- the Any holds the URL of a type, which a text can spell, the bytes that are written of a message
--- of the type, no more than a length can say, and nothing else
+-- the Any holds a type's URL, which a text can spell, the bytes that are written of a message of the
+-- type, no more than a length can say, and nothing else
 pub record HoldsOneForm (w : Schema) (t : Name) (m : Message) (url : Text × Text) (u : Name)
     (held : Message) : Type 0 where
   pub domain : is_full_name (parts url.0) ≡ true
   pub name : is_full_name (parts url.1) ≡ true
-  pub bytes : bytes_in (m 2) ≡ bytes_of w.types u held
-  pub small : length (bytes_in (m 2)) < 2 ^ 64
-  pub alone : hold (shape_of w t) (text_in (m 1)) (bytes_in (m 2)) nothing ≡ Some m
+  pub small : length (bytes_of w.types u held) < 2 ^ 64
+  pub alone : hold (shape_of w t) (text_in (m 1)) (bytes_of w.types u held) nothing ≡ Some m
 
 -- an Any whose bytes mean a message of the type that its URL names holds it so, and the message is
 -- plain and as it should be
 abbrev pub IsOneForm : (Name → Message → Type 0) → Schema → Name → Message → Type 0
 IsOneForm inner w t m =
-    w.is_any t ≡ true → (url : Text × Text) (u : Name) (held : Message)
+    w.is_any t ≡ true → (url : Text × Text) (bytes : Text) (u : Name) (held : Message)
     → last_slash (text_in (m 1)) ≡ Some url → w.message url.1 ≡ Some u
-    → w.decoded u (bytes_in (m 2)) ≡ Some held
+    → bytes_in (m 2) ≡ Some bytes → w.decoded u bytes ≡ Some held
     → HoldsOneForm w t m url u held × IsPlain w.types u held × inner u held
 
 -- so do the Anys of a message, and those of what they hold, with at most so many in one another
