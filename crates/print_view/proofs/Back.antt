@@ -1,5 +1,6 @@
 -- What is printed of a decoded message is read back as it.
-use Rattle.std.proofs.Common.{◌≡◌, ◌≤◌, ℕ, not, List, Option, sym, ap, ◌∙◌, subst}
+use Rattle.std.proofs.Common.{◌≡◌, ◌≤◌, ℕ, true, false, true≢false, List, Option, sym, ap, ◌∙◌, subst}
+use Rattle.std.proofs.lemmas.Bool.{not-true}
 use Rattle.protox_lex.specs.Class.{Text}
 use Rattle.protobuf_model.specs.Bytes.{bytes_of}
 use Rattle.protobuf_model.specs.Types.{Name}
@@ -13,7 +14,7 @@ use Rattle.reflect_format.specs.Filled.{Fills, Makes}
 use Rattle.reflect_format.specs.Unfit.{CannotMake, Unfit}
 use Rattle.reflect_print.specs.MessageTexts.{IsMessageText}
 use Rattle.text_lines.specs.declared.options.FormatOptions.{FormatOptions}
-use Rattle.text_model.specs.Forms.{Form, ShowsSet}
+use Rattle.text_model.specs.Forms.{Form}
 use Rattle.text_model.specs.Plain.{IsPlain}
 use Rattle.text_model.specs.Printed.{printed}
 use Rattle.text_model.specs.Schemas.{Schema}
@@ -31,21 +32,24 @@ use Rattle.text_view.specs.Schemas.{schema_of}
 use Rattle.text_view.specs.SourceNames.{HasSourceNames}
 use Rattle.text_view.proofs.HaveNames.{have_identifiers, have_names}
 use Rattle.text_view.proofs.Made.{made_given, none_given}
-use Rattle.print_view.specs.Forms.{form_of, TellsSet}
-use Rattle.print_view.proofs.Printed.{set_printed}
+use Rattle.text_model.specs.Unset as model
+use Rattle.print_view.specs.Forms.{form_of, HaveMessagePresence, HaveReadDefaults, TellsFields}
+use Rattle.print_view.proofs.Printed.{fields_printed}
+use Rattle.print_view.proofs.Unset.{have_read_defaults}
 
-module _ (options : FormatOptions) (tells : TellsSet options) (decoded : Name → Text → Option Message) (d : MessageDescriptor) (sound : IsSound d.pool.now)
-    (named : HasSourceNames d.pool.now)
+module _ (options : FormatOptions) (tells : TellsFields options) (decoded : Name → Text → Option Message) (d : MessageDescriptor) (sound : IsSound d.pool.now)
+    (named : HasSourceNames d.pool.now) (told : options.skip_default_fields ≡ false → HaveMessagePresence d.pool.now × HaveReadDefaults d.pool.now)
     (bytes : List ℕ) (are : AreBytes bytes) (m : DynamicMessage) (type : m.descriptor ≡ d) (spelled : IsSpelled d bytes m) where
   abbrev w : Schema
   w = schema_of d.pool.now decoded
 
-  -- the form that the options are, in which the fields that are set are printed and no others
+  -- the form that the options are
   abbrev form : Form
   form = form_of options
 
-  own : ShowsSet form
-  own = record { set = ap not tells.set; unexpanded = tells.fields.unexpanded }
+  -- what it prints of fields that are not set is read so
+  reads : form.defaults ≡ true → model.HaveReadDefaults w.types
+  reads e = let its = told (not-true options.skip_default_fields e) in have_read_defaults d.pool.now sound its.0 its.1
 
   abbrev t : Name
   t = name_at d.pool.now d.index
@@ -53,8 +57,8 @@ module _ (options : FormatOptions) (tells : TellsSet options) (decoded : Name �
   module _ (plain : IsPlain (types_of d.pool.now) t (view m)) (shallow : open_braces (printed form w t (view m)) ≤ 100) (z : Text) (text : IsMessageText options m z) where
     -- the text gives what is seen of the message
     gives : Gives w t z (view m)
-    gives = subst (λ z. Gives w t z (view m)) (sym (set_printed options tells d sound bytes m type spelled decoded z text))
-        (printed_text_back form own w (have_names d.pool.now sound named decoded) (have_identifiers d.pool.now sound named decoded) t (view m) (decoded_suits d sound bytes are m type spelled) plain shallow)
+    gives = subst (λ z. Gives w t z (view m)) (sym (fields_printed options tells d sound (λ e. (told e).0) bytes m type spelled decoded z text))
+        (printed_text_back form w (have_names d.pool.now sound named decoded) (have_identifiers d.pool.now sound named decoded) reads t (view m) (decoded_suits d sound bytes are m type spelled) plain (λ e. absurd (true≢false (sym e ∙ tells.unexpanded))) shallow)
 
     -- so what it makes is written as the message is
     pub same_written : (fs : Fields) → IsText z fs → (n : DynamicMessage) → Makes d (Fills fs) n → message_bytes n ≡ message_bytes m

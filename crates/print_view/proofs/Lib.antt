@@ -6,5 +6,6 @@ mod Pieces
 mod Singles
 mod Values
 mod Entries
+mod Unset
 pub mod Printed
 mod Back

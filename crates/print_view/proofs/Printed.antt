@@ -19,7 +19,7 @@ use Rattle.message_view.specs.Types.{name_at}
 use Rattle.message_view.specs.Views.{view}
 use Rattle.message_view.proofs.Recoded.{decoded_shaped}
 use Rattle.text_view.specs.Schemas.{schema_of}
-use Rattle.print_view.specs.Forms.{compact_form, form_of, own_form, HaveMessagePresence, TellsFields, TellsSet}
+use Rattle.print_view.specs.Forms.{compact_form, form_of, own_form, HaveMessagePresence, TellsFields}
 use Rattle.print_view.proofs.Parts.{HaveValues, have_values}
 use Rattle.print_view.proofs.Entries.{all_printed}
 use Rattle.print_view.proofs.Pieces.{text_said}
@@ -67,12 +67,7 @@ fields_printed options tells d sound told bytes m type spelled decoded z text =
     own_printed options.pretty options.skip_default_fields options.in_index_order d told sound bytes m type spelled decoded z (subst (λ o. IsMessageText o m z) same text)
     ∙ ap (λ o. tree_text o (schema_of d.pool.now decoded) (name_at d.pool.now d.index) (view m)) (sym same)
 
--- without defaults
-pub set_printed : (options : FormatOptions) → TellsSet options → (d : MessageDescriptor) → IsSound d.pool.now → (bytes : List ℕ) (m : DynamicMessage) → m.descriptor ≡ d → IsSpelled d bytes m
-    → (decoded : Name → Text → Option Message) (z : Text) → IsMessageText options m z → z ≡ tree_text options (schema_of d.pool.now decoded) (name_at d.pool.now d.index) (view m)
-set_printed options tells d sound = fields_printed options tells.fields d sound (λ e. absurd (true≢false (sym tells.set ∙ e)))
-
 -- the compact form
 pub decoded_printed : (d : MessageDescriptor) → IsSound d.pool.now → (bytes : List ℕ) (m : DynamicMessage) → m.descriptor ≡ d → IsSpelled d bytes m
     → (decoded : Name → Text → Option Message) (z : Text) → IsMessageText compact_form m z → z ≡ compact (printed own_form (schema_of d.pool.now decoded) (name_at d.pool.now d.index) (view m))
-decoded_printed = set_printed compact_form (record { fields = record { declared = refl; unexpanded = refl }; set = refl })
+decoded_printed d sound = fields_printed compact_form (record { declared = refl; unexpanded = refl }) d sound (λ e. absurd (true≢false e))

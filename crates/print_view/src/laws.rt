@@ -23,7 +23,7 @@ ghost use Rattle.message_view.specs.Types.{name_at, types_of};
 ghost use Rattle.message_view.specs.Views.{view};
 ghost use Rattle.text_view.specs.Schemas.{schema_of};
 ghost use Rattle.text_view.specs.SourceNames.{HasSourceNames};
-ghost use Rattle.print_view.specs.Forms.{form_of, HaveMessagePresence, TellsFields, TellsSet};
+ghost use Rattle.print_view.specs.Forms.{form_of, HaveMessagePresence, HaveReadDefaults, TellsFields};
 
 /// The text of a decoded message, in each form that tells fields and nothing else, is that of the
 /// tree which the model prints in this form; with defaults, where a field of one message has
@@ -39,13 +39,16 @@ pub fn decoded_messages_are_printed_as_their_trees()
 {}
 
 /// Where names are spelled as in sources, what is printed of a decoded message whose records all
-/// have fields makes, in each form that tells the fields that are set and nothing else, and as a
-/// text of its type, messages that are written in the same bytes, if no more than 100 braces are
-/// open in it at once.
+/// have fields makes, in each form that tells fields and nothing else, and as a text of its type,
+/// messages that are written in the same bytes, if no more than 100 braces are open in it at once;
+/// with defaults, where a field of one message has presence, and a field without presence a default
+/// of its kind and no oneof.
 pub fn printed_messages_are_read_back()
-    ensures { (options : FormatOptions) → TellsSet options
+    ensures { (options : FormatOptions) → TellsFields options
         → (decoded : Name → Text → Option Message) (d : MessageDescriptor)
         → IsSound d.pool.now → HasSourceNames d.pool.now
+        → (options.skip_default_fields ≡ false
+        → HaveMessagePresence d.pool.now × HaveReadDefaults d.pool.now)
         → (bytes : List ℕ) → AreBytes bytes
         → (m : DynamicMessage) → m.descriptor ≡ d → IsSpelled d bytes m
         → IsPlain (types_of d.pool.now) (name_at d.pool.now d.index) (view m)
@@ -58,9 +61,11 @@ pub fn printed_messages_are_read_back()
 
 /// And it is not refused as a text that the type does not take.
 pub fn printed_messages_are_taken()
-    ensures { (options : FormatOptions) → TellsSet options
+    ensures { (options : FormatOptions) → TellsFields options
         → (decoded : Name → Text → Option Message) (d : MessageDescriptor)
         → IsSound d.pool.now → HasSourceNames d.pool.now
+        → (options.skip_default_fields ≡ false
+        → HaveMessagePresence d.pool.now × HaveReadDefaults d.pool.now)
         → (bytes : List ℕ) → AreBytes bytes
         → (m : DynamicMessage) → m.descriptor ≡ d → IsSpelled d bytes m
         → IsPlain (types_of d.pool.now) (name_at d.pool.now d.index) (view m)

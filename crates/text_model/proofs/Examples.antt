@@ -32,14 +32,14 @@ use Rattle.text_model.proofs.Rivals.{no_rival}
 abbrev type_m : Name
 type_m = codes "M"
 
-abbrev type_n : Name
+abbrev pub type_n : Name
 type_n = codes "N"
 
 -- that of the entries of M's map
 abbrev type_entry : Name
 type_entry = codes "M.MEntry"
 
-abbrev number : Bool → Option ℕ → Option Field
+abbrev pub number : Bool → Option ℕ → Option Field
 number presence oneof = Some (record { part = record { kind = kinds.scalar kinds.int32; presence = presence; default = int32 (pos 0) }; label = one; oneof = oneof; extension = false })
 
 abbrev sub : Option Field
@@ -61,7 +61,7 @@ texts = Some (record {
 
 -- message M { int32 foo = 1; N nested = 3; repeated int32 xs = 4; map<int32, string> m = 5; oneof o { int32 a = 6; int32 b = 7; } } message N { int32 bar = 2; }
 -- message Any { string type_url = 1; bytes value = 2; }
-abbrev types : Types
+abbrev pub types : Types
 types t n = cond (bytes_eq t type_m) (cond (n == 1) (number false None) (cond (n == 3) sub (cond (n == 4) numbers (cond (n == 5) texts (cond (n == 6) (number true (Some 0)) (cond (n == 7) (number true (Some 0)) None))))))
     (cond (bytes_eq t type_n) (cond (n == 2) (number false None) None)
     (cond (bytes_eq t type_entry) (cond (n == 1) (number false None) (cond (n == 2) (holds kinds.string (text [])) None))
@@ -77,10 +77,10 @@ abbrev called : Name → ℕ → Text
 called t n = cond (bytes_eq t type_m) (cond (n == 1) (codes "foo") (cond (n == 3) (codes "nested") (cond (n == 4) (codes "xs") (codes "m")))) (codes "bar")
 
 -- the message that holds 66 under 2
-abbrev n_message : Message
+abbrev pub n_message : Message
 n_message = λ n. cond (n == 2) (content (single (int32 (pos 66)))) absent
 
-abbrev schema : Schema
+abbrev pub schema : Schema
 schema = record {
   types = types;
   names = λ t. record { field = found t; extension = λ w. None; name = called t; declared = []; enum_number = λ n w. None; enum_name = λ n z. None; entry = λ n. type_entry };
@@ -197,7 +197,7 @@ joined_strings = refl
 abbrev m_message : Message
 m_message = λ n. cond (n == 1) (content (single (int32 (pos 150)))) (cond (n == 3) (content (message n_message)) absent)
 
-other_number : (n q : ℕ) → q < n → (n == q) ≡ false
+pub other_number : (n q : ℕ) → q < n → (n == q) ≡ false
 other_number n q h = elim (eqb_tells n q) [ inl e ↦ absurd (omega (arith, e.1)) | inr e ↦ e.0 ]
 
 -- in this form, and in one that expands
@@ -270,14 +270,14 @@ one_brace = refl
 abbrev expansion_tree : Fields → Fields
 expansion_tree fs = more_fields (expansion (record { first = codes "x"; others = codes "y" ∷ [] }) (record { first = codes "N"; others = [] })) (one_message false curly fs) no_separator no_fields
 
-abbrev url : Text
+abbrev pub url : Text
 url = codes "x.y/N"
 
-abbrev any_message : Message
+abbrev pub any_message : Message
 any_message = assign (types (codes "Any")) 2 (content (single (blob (16 ∷ 66 ∷ [])))) (assign (types (codes "Any")) 1 (content (single (text url))) nothing)
 
 -- what its fields give
-abbrev n_given : Message
+abbrev pub n_given : Message
 n_given = assign (types type_n) 2 (content (single (int32 (pos 66)))) nothing
 
 n_given_above : (n : ℕ) → 3 < n → n_given n ≡ absent
@@ -286,7 +286,7 @@ n_given_above n h = ap (λ b. cond b (content (single (int32 (pos 66)))) (cond (
   both true = refl
   both false = refl
 
-n_bytes : bytes_of types type_n n_given ≡ 16 ∷ 66 ∷ []
+pub n_bytes : bytes_of types type_n n_given ≡ 16 ∷ 66 ∷ []
 unfolding varint_bytes
 n_bytes =
     let declared = λ (n : ℕ). is_declared (types type_n n) in

@@ -67,6 +67,10 @@ pub dot_front : (at : ℕ) (z : Text) → is_in class.Digit (slice_index z 0) �
 unfolding front source.front
 dot_front at z h = ap (λ t. as_text at (46 ∷ z) (if t then number (46 ∷ z) else Ok (sources.token (sources.sign signs.Dot), 1))) h
 
+pub slash_front : (at : ℕ) (z : Text) → front at (47 ∷ z) ≡ Ok (token (sign 47), 1)
+unfolding front
+slash_front at z = refl
+
 pub colon_front : (at : ℕ) (z : Text) → front at (58 ∷ z) ≡ Ok (token (sign 58), 1)
 unfolding front source.front
 colon_front at z = refl

@@ -7,9 +7,13 @@ pub mod Singles
 pub mod Orders
 pub mod Contents
 pub mod Rivals
+pub mod Unset
 pub mod Printing
+pub mod Expansions
+pub mod Expanding
 pub mod Numbers
 mod Examples
+mod ExpandedExample
 pub mod Leaves
 pub mod Decimals
 pub mod Written

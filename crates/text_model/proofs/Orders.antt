@@ -22,7 +22,7 @@ AreApart (n ∷ ns) = (has ns n ≡ false) × AreApart ns
 pub true_false : (b : Bool) → b ≡ true → b ≡ false → ⊥
 true_false b e f = let x : true ≡ false = sym e ∙ f in cc
 
-and_false : (b : Bool) → (b && false) ≡ false
+pub and_false : (b : Bool) → (b && false) ≡ false
 and_false true = refl
 and_false false = refl
 

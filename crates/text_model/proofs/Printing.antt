@@ -1,30 +1,32 @@
--- What a message is printed as gives the message.
+-- The fields that a message is printed as give the message.
 use Rattle.std.proofs.Common.{not, ◌≡◌, ◌⊎◌, inl, inr, ℕ, zero, suc, ◌==◌, ◌||◌, ◌&&◌, Bool, true, false, cond, List, [], ◌∷◌, ◌++◌, Option, None, Some, option_and_then, refl, sym, ap, ◌∙◌, subst}
 use Rattle.std.specs.List.{flat_map}
 use Rattle.std.proofs.lemmas.Bool.Decides.{eqb_tells}
-use Rattle.std.proofs.lemmas.Bool.{or_from}
+use Rattle.std.proofs.lemmas.Bool.{and_parts, not-true, or_from}
 use mathlib.Core.Path.{fun_ext}
 use Rattle.protox_lex.specs.Class.{Text}
 use Rattle.reflect_wire.specs.Records.{Payload}
 use Rattle.protobuf_model.specs.Values.{Content, Held, content, records, Message, absent, nothing}
-use Rattle.protobuf_model.specs.Types.{Name, Key, keyed, Field, rival}
+use Rattle.protobuf_model.specs.Types.{Name, Key, keyed, Field, oneof_of, rival}
 use Rattle.protobuf_model.specs.Typed.{IsHeldOf, IsTypedBy, IsTyped}
 use Rattle.text_model.specs.Tree.{FieldName, plain, extension, Given, Separator, Fields}
-use Rattle.text_model.specs.Forms.{Form, between, ShowsSet}
+use Rattle.text_model.specs.Forms.{Form, between}
 use Rattle.text_model.specs.Schemas.{Schema, Shape, shape_of, Finds, AreNames, IsEntryType, HaveNames, Names}
 use Rattle.text_model.specs.Value.{assign, written, with_field, named_value, value, body_value, field_value}
 use Rattle.text_model.specs.Printed.{Inner, in_any, or_fields, lacks_presence, default_given, unset, joined, parts, field_name, printing_order, printed_content, printed_held, printed_fields, printed_by, printed_within, printed}
 use Rattle.text_model.specs.Plain.{IsPlainHeld, IsPlain}
+use Rattle.text_model.specs.Unset.{HaveReadDefaults}
 use Rattle.text_model.proofs.Orders.{has, AreApart, true_false, order_has, order_apart}
 use Rattle.text_model.proofs.Contents.{field_back}
 use Rattle.text_model.proofs.Rivals.{no_rival}
+use Rattle.text_model.proofs.Unset.{unset_back}
 
 -- the value of fields, whatever stands between them
 abbrev pub entries_value : Schema → Shape → List (FieldName × Given) → Message → Option Message
 entries_value w s [] m = Some m
 entries_value w s (e ∷ es) m = option_and_then (entries_value w s es) (named_value w s e.0 m (field_value w s e.1 m) (λ t. body_value w t e.1))
 
-last_value : (o : Option Message) → option_and_then (λ m. Some m) o ≡ o
+pub last_value : (o : Option Message) → option_and_then (λ m. Some m) o ≡ o
 last_value (Some m) = refl
 last_value None = refl
 
@@ -38,7 +40,7 @@ joined_value w s sep (e ∷ []) m = refl
 joined_value w s sep (e ∷ d ∷ es) m = more_value (named_value w s e.0 m (field_value w s e.1 m) (λ t. body_value w t e.1)) (value w s (joined sep (d ∷ es))) (entries_value w s (d ∷ es)) (λ m. joined_value w s sep (d ∷ es) m)
 
 -- the identifiers of a full name are it
-parts_written : (t : Text) → written (parts t) ≡ t
+pub parts_written : (t : Text) → written (parts t) ≡ t
 parts_written [] = refl
 parts_written (b ∷ bs) = by (eqb_tells b 46) (parts_written bs) where
   by : (((b == 46) ≡ true) × (b ≡ 46)) ⊎ (((b == 46) ≡ false) × (b ≡ 46 → ⊥)) → written (parts bs) ≡ bs → written (parts (b ∷ bs)) ≡ b ∷ bs
@@ -85,20 +87,7 @@ part_on n ns m x y apart p here there = record {
   ];
 }
 
-cond_off : (b c : Bool) (o : Option Fields) → b ≡ false → cond (b && c) o None ≡ None
-cond_off true c o e = cc
-cond_off false c o e = refl
-
--- in such a form an Any is printed as its fields, and no field that is not set
-pub no_any : (form : Form) (w : Schema) (inner : Inner) (t : Name) (m : Message) → ShowsSet form → in_any form w inner t m ≡ None
-no_any form w inner t m own = cond_off form.expands (w.is_any t) _ own.unexpanded
-
-pub none_unset : (form : Form) (names : Names) (n : ℕ) (o : Option Field) → ShowsSet form → unset form names n o ≡ []
-none_unset form names n None own = refl
-none_unset form names n (Some f) own =
-    ap (λ b. cond (b && (not f.extension && lacks_presence f.part f.label)) ((field_name names n f, default_given (names.enum_name n) f.part f.label) ∷ []) []) own.set
-
-module _ (form : Form) (own : ShowsSet form) (w : Schema) (inner : Inner) (t : Name) (names : AreNames (w.types t) (w.names t))
+module _ (form : Form) (w : Schema) (told : form.defaults ≡ true → HaveReadDefaults w.types) (inner : Inner) (t : Name) (names : AreNames (w.types t) (w.names t))
     (entries : (n : ℕ) (f : Field) (key : Key) → w.types t n ≡ Some f → f.label ≡ keyed key → IsEntryType w ((w.names t).entry n) key f.part ((w.names t).enum_name n)) (typed : Name → Message → Type 0) (levels : ℕ)
     (back : (u : Name) (m : Message) → typed u m → IsPlain w.types u m → value w (shape_of w u) (printed_by form w inner u m) nothing ≡ Some m)
     (m : Message) (h : IsTypedBy typed levels (w.types t) m) (b : IsPlain w.types t m) where
@@ -121,11 +110,33 @@ module _ (form : Form) (own : ShowsSet form) (w : Schema) (inner : Inner) (t : N
   set_absent : (c : Content) → content c ≡ absent → ⊥
   set_absent c e = cc
 
+  -- what is printed of a field that is not set leaves what there is
+  unset_left : (n : ℕ) (rest : List (FieldName × Given)) (x : Message) → x n ≡ absent → (o : Option Field) → type n ≡ o
+      → entries_value w (shape_of w t) (unset form (w.names t) n o ++ rest) x ≡ entries_value w (shape_of w t) rest x
+  unset_left n rest x here None e = refl
+  unset_left n rest x here (Some f) e = by (form.defaults && (not f.extension && lacks_presence f.part f.label)) refl where
+    standing : Given
+    standing = default_given ((w.names t).enum_name n) f.part f.label
+
+    here_left : Bool → Type 0
+    here_left b = entries_value w (shape_of w t) (cond b ((field_name (w.names t) n f, standing) ∷ []) [] ++ rest) x ≡ entries_value w (shape_of w t) rest x
+
+    by : (b : Bool) → (form.defaults && (not f.extension && lacks_presence f.part f.label)) ≡ b → here_left (form.defaults && (not f.extension && lacks_presence f.part f.label))
+    by false is = subst here_left (sym is) refl
+    by true is =
+        let both = and_parts form.defaults (not f.extension && lacks_presence f.part f.label) is in
+        let field = and_parts (not f.extension) (lacks_presence f.part f.label) both.1 in
+        let fit = told both.0 t n f e (not-true f.extension field.0) field.1 in
+        subst here_left (sym is)
+        (ap (option_and_then (entries_value w (shape_of w t) rest))
+        (found w (shape_of w t) n f x (field_value w (shape_of w t) standing x) (λ u. body_value w u standing) (names.fields n f e) e
+        ∙ unset_back w (shape_of w t) n (ap oneof_of e ∙ fit.0) (names.enums n) f.oneof f.extension x here f.part f.label field.1 fit.1))
+
   step : (n : ℕ) (ns : List ℕ) → has ns n ≡ false → Goes ns → (x : Message) → IsPart (n ∷ ns) m x → (o : Option Field) → type n ≡ o → (i : Held) → m n ≡ i
       → entries_value w (shape_of w t) (printed_held form w inner (w.names t) n o i ++ flat_map under ns) x ≡ Some m
   step n ns apart goes x p o e (records ps) f =
       let none : ps ≡ [] = plain_records o ps (subst (λ i. IsPlainHeld w.types o i) f (subst (λ o. IsPlainHeld w.types o (m n)) e (b n))) in
-      ap (λ xs. entries_value w (shape_of w t) (xs ++ flat_map under ns) x) (none_unset form (w.names t) n o own)
+      unset_left n (flat_map under ns) x (p.todo n (has_here n ns)) o e
       ∙ goes x (part_on n ns m x x apart p (p.todo n (has_here n ns) ∙ sym (f ∙ ap records none)) (λ q d. refl)) where
         plain_records : (o : Option Field) (ps : List Payload) → IsPlainHeld w.types o (records ps) → ps ≡ []
         plain_records None ps h = h
@@ -154,19 +165,11 @@ module _ (form : Form) (own : ShowsSet form) (w : Schema) (inner : Inner) (t : N
   entries_go [] apart x p = ap Some (fun_ext (λ q. p.done q refl))
   entries_go (n ∷ ns) apart x p = step n ns apart.0 (entries_go ns apart.1) x p (type n) refl (m n) refl
 
-  pub message_back : value w (shape_of w t) (printed_by form w inner t m) nothing ≡ Some m
-  message_back =
-      ap (λ o. value w (shape_of w t) (or_fields o (joined (between form.pretty) (printed_fields form w inner t m))) nothing) (no_any form w inner t m own)
-      ∙ joined_value w (shape_of w t) (between form.pretty) (printed_fields form w inner t m) nothing
+  -- all of its fields give it
+  pub fields_back : value w (shape_of w t) (joined (between form.pretty) (printed_fields form w inner t m)) nothing ≡ Some m
+  fields_back =
+      joined_value w (shape_of w t) (between form.pretty) (printed_fields form w inner t m) nothing
       ∙ entries_go (printing_order form (w.names t) type) (order_apart form (w.names t) type names.declared) nothing (record {
         done = λ q e. elim (h.numbers q) [ inl a ↦ sym a | inr r ↦ absurd (true_false (has (printing_order form (w.names t) type) q) (order_has form (w.names t) type names.declared q r) e) ];
         todo = λ q e. refl;
       })
-
--- of so many levels
-printed_by_back : (levels : ℕ) (form : Form) → ShowsSet form → (w : Schema) (inner : Inner) → HaveNames w → (t : Name) (m : Message) → IsTyped levels w.types t m → IsPlain w.types t m → value w (shape_of w t) (printed_by form w inner t m) nothing ≡ Some m
-printed_by_back zero form own w inner names t m h b = message_back form own w inner t (names.each t) (names.entries t) (λ u m. ⊥) zero (λ u m h b. absurd h) m h b
-printed_by_back (suc levels) form own w inner names t m h b = message_back form own w inner t (names.each t) (names.entries t) (IsTyped levels w.types) (suc levels) (printed_by_back levels form own w inner names) m h b
-
-pub printed_back : (form : Form) → ShowsSet form → (w : Schema) → HaveNames w → (t : Name) (m : Message) → IsTyped 100 w.types t m → IsPlain w.types t m → value w (shape_of w t) (printed form w t m) nothing ≡ Some m
-printed_back form own w names t m h b = printed_by_back 100 form own w (λ u b. Some (printed_within 99 form w u b)) names t m h b

@@ -1,8 +1,8 @@
--- What a message is printed as on one line is cut into its tokens again.
-use Rattle.std.proofs.Common.{codes, ◌≡◌, ℕ, ℤ, zero, suc, pos, negsuc, ◌<◌, ◌^◌, Bool, true, false, cond, List, [], ◌∷◌, ◌++◌, Option, Some, None, FitsSigned, refl, sym, subst, arith}
+-- What a message is printed as is cut into its tokens again.
+use Rattle.std.proofs.Common.{codes, ◌≡◌, ℕ, ℤ, zero, suc, pos, negsuc, ◌<◌, ◌^◌, ◌&&◌, not, Bool, true, false, cond, List, [], ◌∷◌, ◌++◌, Option, Some, None, FitsSigned, refl, sym, subst, arith}
 use Rattle.std.specs.Int.{w32, w64}
 use Rattle.std.specs.List.{flat_map, list_all, AllByRecursion}
-use Rattle.std.proofs.lemmas.Bool.{and_parts}
+use Rattle.std.proofs.lemmas.Bool.{and_parts, not-true}
 use Rattle.protox_lex.specs.Class.{Text}
 use Rattle.text_lex.specs.Lex.{lexemes}
 use Rattle.text_lex.proofs.Lexing.{all_longest}
@@ -12,20 +12,22 @@ use Rattle.protobuf_model.specs.Types as kinds
 use Rattle.protobuf_model.specs.Scalars.{Suits}
 use Rattle.protobuf_model.specs.Coded.{SuitsType}
 use Rattle.protobuf_model.specs.Typed.{IsOf, IsEntryOf, IsFieldOf, IsHeldOf, IsTypedBy, IsTyped}
-use Rattle.text_model.specs.Tree.{one_scalar, FieldName, plain, extension, no_separator, Given, Fields, no_fields}
+use Rattle.text_model.specs.Tree.{one_scalar, FullName, FieldName, plain, extension, no_separator, Given, Fields, no_fields}
 use Rattle.text_model.specs.Tokens.{fields_tokens}
-use Rattle.text_model.specs.Forms.{Form, between, ShowsSet}
+use Rattle.text_model.specs.Forms.{Form, between}
 use Rattle.text_model.specs.Schemas.{Names, Schema}
-use Rattle.text_model.specs.Printed.{Inner, or_fields, joined, parts, field_name, natural, whole, named, printed_single, value_in, printed_content, printed_list, printed_entries, printed_held, printed_fields, printed_by, printed_within, printed, printing_order}
+use Rattle.text_model.specs.Printed.{Inner, or_fields, joined, parts, field_name, lacks_presence, default_given, unset, natural, whole, named, printed_single, value_in, printed_content, printed_list, printed_entries, printed_held, printed_fields, printed_by, printed_within, printed, printing_order}
 use Rattle.text_model.specs.Plain.{AreBytes, IsPlainContent, ArePlainContents, ArePlainEntries, IsPlainHeld, IsPlain}
+use Rattle.text_model.specs.Expansions.{HasOneForm, HoldsOneForm}
+use Rattle.text_model.specs.Unset.{IsOfKind, HasReadDefault, HaveReadDefaults}
 use Rattle.text_model.specs.Identifiers.{is_identifier, is_full_name, AreIdentifiers, HaveIdentifiers}
 use Rattle.text_model.specs.Rendered.{compact, pretty, text_of}
 use Rattle.text_model.specs.Texts.{Spells}
 use Rattle.text_model.proofs.Leaves.{Lexed}
-use Rattle.text_model.proofs.Printing.{no_any, none_unset}
+use Rattle.text_model.proofs.Expansions.{IsExpansion, all_printed}
 use Rattle.text_model.proofs.Utf8.{utf8_small}
 use Rattle.text_model.proofs.Pretty.{pretty_lexed}
-use Rattle.text_model.proofs.Written.{IsBetween, IsCleanScalar, IsNameShown, IsValueShown, AreValuesShown, IsGivenShown, AreShown, shown_lexed}
+use Rattle.text_model.proofs.Written.{IsBetween, IsCleanScalar, IsFullNameShown, IsNameShown, IsValueShown, AreValuesShown, IsGivenShown, AreShown, shown_lexed}
 
 -- ---- single values
 
@@ -90,6 +92,9 @@ each_identifier : (ws : List Text) → list_all is_identifier ws ≡ true → Al
 each_identifier [] h = tt
 each_identifier (w ∷ ws) h = let p = and_parts (is_identifier w) (list_all is_identifier ws) h in (p.0, each_identifier ws p.1)
 
+full_name_shown : (n : FullName) → is_full_name n ≡ true → IsFullNameShown n
+full_name_shown n h = let p = and_parts (is_identifier n.first) (list_all is_identifier n.others) h in (p.0, each_identifier n.others p.1)
+
 name_shown : (names : Names) (n : ℕ) (f : Field) → cond f.extension (is_full_name (parts (names.name n))) (is_identifier (names.name n)) ≡ true → IsNameShown (field_name names n f)
 name_shown names n f h = by (f.extension) refl h where
   by : (b : Bool) → f.extension ≡ b → cond f.extension (is_full_name (parts (names.name n))) (is_identifier (names.name n)) ≡ true → IsNameShown (cond f.extension (extension (parts (names.name n))) (plain (names.name n)))
@@ -97,8 +102,8 @@ name_shown names n f h = by (f.extension) refl h where
       subst (λ b. IsNameShown (cond b (extension (parts (names.name n))) (plain (names.name n)))) (sym e)
       (subst (λ b. cond b (is_full_name (parts (names.name n))) (is_identifier (names.name n)) ≡ true) e h)
   by true e h =
-      let p = and_parts (is_identifier (parts (names.name n)).first) (list_all is_identifier (parts (names.name n)).others) (subst (λ b. cond b (is_full_name (parts (names.name n))) (is_identifier (names.name n)) ≡ true) e h) in
-      subst (λ b. IsNameShown (cond b (extension (parts (names.name n))) (plain (names.name n)))) (sym e) (p.0, each_identifier (parts (names.name n)).others p.1)
+      subst (λ b. IsNameShown (cond b (extension (parts (names.name n))) (plain (names.name n)))) (sym e)
+      (full_name_shown (parts (names.name n)) (subst (λ b. cond b (is_full_name (parts (names.name n))) (is_identifier (names.name n)) ≡ true) e h))
 
 all_append : (p : Bool) (a b : List (FieldName × Given)) → AllByRecursion (IsEntryShown p) a → AllByRecursion (IsEntryShown p) b → AllByRecursion (IsEntryShown p) (a ++ b)
 all_append p [] b h k = k
@@ -110,7 +115,7 @@ all_of p f (n ∷ ns) h = all_append p (f n) (flat_map f ns) (h n) (all_of p f n
 
 -- ---- contents
 
-module _ (form : Form) (own : ShowsSet form) (w : Schema) (inner : Inner) (typed : Name → Message → Type 0) (shown : (u : Name) (m : Message) → typed u m → IsPlain w.types u m → AreShown form.pretty (printed_by form w inner u m)) where
+module _ (form : Form) (w : Schema) (told : form.defaults ≡ true → HaveReadDefaults w.types) (inner : Inner) (typed : Name → Message → Type 0) (shown : (u : Name) (m : Message) → typed u m → IsPlain w.types u m → AreShown form.pretty (printed_by form w inner u m)) where
   alone_shown : (name : ℤ → Option Text) → AreSpelled name → (k : Kind) (c : Content) → IsOf typed k c → IsPlainContent w.types k c → IsGivenShown form.pretty (printed_content form w inner name k c)
   alone_shown name f (scalar k) (single v) h b = single_shown name k v f b h
   alone_shown name f (nested frame u) (message m) h b = shown u m h b
@@ -136,20 +141,45 @@ module _ (form : Form) (own : ShowsSet form) (w : Schema) (inner : Inner) (typed
   field_shown name f part (keyed key) (dictionary (more_entries v c es)) h b = entries_shown name f key part (more_entries v c es) h.0 b
   field_shown name f part l c h b = absurd h
 
-  held_shown : (names : Names) (type : ℕ → Option Field) → AreIdentifiers type names → (levels n : ℕ) (o : Option Field) → type n ≡ o → (h : Held) → IsHeldOf typed levels o h → IsPlainHeld w.types o h → AllByRecursion (IsEntryShown form.pretty) (printed_held form w inner names n o h)
-  held_shown names type a levels n o e (records ps) h b = subst (AllByRecursion (IsEntryShown form.pretty)) (sym (none_unset form names n o own)) tt
-  held_shown names type a levels n None e (content c) h b = absurd h
-  held_shown names type a levels n (Some f) e (content c) h b = ((name_shown names n f (a.fields n f e), field_shown (names.enum_name n) (a.enums n) f.part f.label c h b), tt)
+  default_shown : (name : ℤ → Option Text) → AreSpelled name → (k : Kind) (d : Single) → IsOfKind k d → IsGivenShown form.pretty (one_scalar (printed_single name d))
+  default_shown name f (scalar k) d h = single_shown name k d f h.1 h.0
+  default_shown name f (nested frame u) d h = absurd h
 
-  message_shown : (t : Name) → AreIdentifiers (w.types t) (w.names t) → (levels : ℕ) (m : Message) → IsTypedBy typed levels (w.types t) m → IsPlain w.types t m → AreShown form.pretty (printed_by form w inner t m)
-  message_shown t a levels m h b =
-      subst (λ o. AreShown form.pretty (or_fields o (joined (between form.pretty) (printed_fields form w inner t m)))) (sym (no_any form w inner t m own))
-      (joined_shown form.pretty (printed_fields form w inner t m) (all_of form.pretty (λ n. printed_held form w inner (w.names t) n (w.types t n) (m n)) (printing_order form (w.names t) (w.types t))
-      (λ n. held_shown (w.names t) (w.types t) a levels n (w.types t n) refl (m n) (h.contents n) (b n))))
+  standing_shown : (name : ℤ → Option Text) → AreSpelled name → (part : Part) (l : Label) → HasReadDefault part l → IsGivenShown form.pretty (default_given name part l)
+  standing_shown name f part one h = default_shown name f part.kind part.default h
+  standing_shown name f part (many packed) h = tt
+  standing_shown name f part (keyed key) h = tt
 
-shown_by : (levels : ℕ) (form : Form) → ShowsSet form → (w : Schema) (inner : Inner) → HaveIdentifiers w → (t : Name) (m : Message) → IsTyped levels w.types t m → IsPlain w.types t m → AreShown form.pretty (printed_by form w inner t m)
-shown_by zero form own w inner a t m h b = message_shown form own w inner (λ u m. ⊥) (λ u m h b. absurd h) t (a t) zero m h b
-shown_by (suc levels) form own w inner a t m h b = message_shown form own w inner (IsTyped levels w.types) (shown_by levels form own w inner a) t (a t) (suc levels) m h b
+  module _ (t : Name) (a : AreIdentifiers (w.types t) (w.names t)) where
+    unset_shown : (n : ℕ) (o : Option Field) → w.types t n ≡ o → AllByRecursion (IsEntryShown form.pretty) (unset form (w.names t) n o)
+    unset_shown n None e = tt
+    unset_shown n (Some f) e = by (form.defaults && (not f.extension && lacks_presence f.part f.label)) refl where
+      pair : FieldName × Given
+      pair = (field_name (w.names t) n f, default_given ((w.names t).enum_name n) f.part f.label)
+
+      by : (b : Bool) → (form.defaults && (not f.extension && lacks_presence f.part f.label)) ≡ b → AllByRecursion (IsEntryShown form.pretty) (cond (form.defaults && (not f.extension && lacks_presence f.part f.label)) (pair ∷ []) [])
+      by false is = subst (λ b. AllByRecursion (IsEntryShown form.pretty) (cond b (pair ∷ []) [])) (sym is) tt
+      by true is =
+          let both = and_parts form.defaults (not f.extension && lacks_presence f.part f.label) is in
+          let field = and_parts (not f.extension) (lacks_presence f.part f.label) both.1 in
+          let fit = told both.0 t n f e (not-true f.extension field.0) field.1 in
+          subst (λ b. AllByRecursion (IsEntryShown form.pretty) (cond b (pair ∷ []) [])) (sym is)
+          ((name_shown (w.names t) n f (a.fields n f e), standing_shown ((w.names t).enum_name n) (a.enums n) f.part f.label fit.1), tt)
+
+    held_shown : (levels n : ℕ) (o : Option Field) → w.types t n ≡ o → (h : Held) → IsHeldOf typed levels o h → IsPlainHeld w.types o h → AllByRecursion (IsEntryShown form.pretty) (printed_held form w inner (w.names t) n o h)
+    held_shown levels n o e (records ps) h b = unset_shown n o e
+    held_shown levels n None e (content c) h b = absurd h
+    held_shown levels n (Some f) e (content c) h b = ((name_shown (w.names t) n f (a.fields n f e), field_shown ((w.names t).enum_name n) (a.enums n) f.part f.label c h b), tt)
+
+    pub fields_shown : (levels : ℕ) (m : Message) → IsTypedBy typed levels (w.types t) m → IsPlain w.types t m → AreShown form.pretty (joined (between form.pretty) (printed_fields form w inner t m))
+    fields_shown levels m h b =
+        joined_shown form.pretty (printed_fields form w inner t m) (all_of form.pretty (λ n. printed_held form w inner (w.names t) n (w.types t n) (m n)) (printing_order form (w.names t) (w.types t))
+        (λ n. held_shown levels n (w.types t n) refl (m n) (h.contents n) (b n)))
+
+expansion_shown : (form : Form) (w : Schema) (inner : Inner) (t : Name) (m : Message) (fs : Fields) (e : IsExpansion form w inner t m fs) → HoldsOneForm w t m e.url e.type e.held → AreShown form.pretty e.given → AreShown form.pretty fs
+expansion_shown form w inner t m fs e its shown =
+    subst (AreShown form.pretty) (sym e.same)
+    ((full_name_shown (parts e.url.0) its.domain, full_name_shown (parts e.url.1) its.name), shown, last_is form.pretty, tt)
 
 -- fields that are printed are cut into again
 tree_lexed : (form : Form) (fs : Fields) → AreShown form.pretty fs → Lexed (text_of form fs) (fields_tokens fs)
@@ -158,8 +188,12 @@ tree_lexed form fs = by form.pretty where
   by true c = pretty_lexed fs c
   by false c = shown_lexed fs c
 
-pub text_spelled : (form : Form) → ShowsSet form → (w : Schema) → HaveIdentifiers w → (t : Name) (m : Message) → SuitsType w.types t m → IsPlain w.types t m → Spells (text_of form (printed form w t m)) (printed form w t m)
-text_spelled form own w a t m h b =
+pub text_spelled : (form : Form) (w : Schema) → HaveIdentifiers w → (form.defaults ≡ true → HaveReadDefaults w.types) → (t : Name) (m : Message) → SuitsType w.types t m → IsPlain w.types t m → (form.expands ≡ true → HasOneForm 100 w t m)
+    → Spells (text_of form (printed form w t m)) (printed form w t m)
+text_spelled form w a told t m h b forms =
     let tree = printed form w t m in
-    let shown = shown_by 100 form own w (λ u b. Some (printed_within 99 form w u b)) a t m h b in
+    let shown : AreShown form.pretty tree = all_printed form w (λ t m fs. AreShown form.pretty fs)
+    (λ inner typed shown levels t m h b. fields_shown form w told inner typed shown t (a t) levels m h b)
+    (λ inner t m fs e its shown. expansion_shown form w inner t m fs e its shown)
+    t m h b forms in
     record { lexemes = lexemes (text_of form tree); cut = all_longest 0 (text_of form tree); tokens = (tree_lexed form tree shown).cut 0 }

@@ -10,13 +10,13 @@ use Rattle.protox_lex.specs.declared.class.Class.TheVariants as class
 use Rattle.text_lex.specs.Lex.{front}
 use Rattle.text_lex.specs.Token.{Token, ident, int, float, str, sign, token}
 use Rattle.text_lex.specs.declared.token.Radix.TheVariants as radix
-use Rattle.text_model.specs.Tree.{FieldName, plain, extension, expansion, integer, floating, identifier, ScalarValue, signed, strings, curly, angle, Separator, no_separator, comma, semicolon, Value, scalar, braced, Values, no_values, more_values, Given, one_scalar, one_message, listed, Fields, no_fields, more_fields}
-use Rattle.text_model.specs.Tokens.{dotted, name_tokens, word_token, scalar_tokens, separator_tokens, value_tokens, more_tokens, values_tokens, given_tokens, fields_tokens}
+use Rattle.text_model.specs.Tree.{FullName, FieldName, plain, extension, expansion, integer, floating, identifier, ScalarValue, signed, strings, curly, angle, Separator, no_separator, comma, semicolon, Value, scalar, braced, Values, no_values, more_values, Given, one_scalar, one_message, listed, Fields, no_fields, more_fields}
+use Rattle.text_model.specs.Tokens.{dotted, full_name_tokens, name_tokens, word_token, scalar_tokens, separator_tokens, value_tokens, more_tokens, values_tokens, given_tokens, fields_tokens}
 use Rattle.text_model.specs.Rendered.{run}
 use Rattle.text_model.specs.Identifiers.{is_identifier}
 use Rattle.text_model.proofs.Front.{is_sign, is_at}
 use Rattle.text_model.proofs.Reading.{grouped}
-use Rattle.text_model.proofs.Leaves.{Lexed, lexed_nil, token_before, ends_word, ends_number, comma_front, minus_front, dot_front, colon_front, bracket_front, close_bracket_front, brace_front, close_brace_front, word_front, string_front}
+use Rattle.text_model.proofs.Leaves.{Lexed, lexed_nil, token_before, ends_word, ends_number, comma_front, minus_front, dot_front, slash_front, colon_front, bracket_front, close_bracket_front, brace_front, close_brace_front, word_front, string_front}
 use Rattle.text_model.proofs.Decimals.{letter_solid, letter_no_digit, decimal_front}
 
 abbrev pub begins_word : Token → Bool
@@ -129,6 +129,9 @@ minus_sign = record { front = λ at z h. minus_front at z; word = refl }
 dot_sign : IsSign 46
 dot_sign = record { front = λ at z h. dot_front at z (elim h [ inl e ↦ absurd (let x : true ≡ false = e in cc) | inr e ↦ e ]); word = refl }
 
+slash_sign : IsSign 47
+slash_sign = record { front = λ at z h. slash_front at z; word = refl }
+
 pub colon_sign : IsSign 58
 colon_sign = record { front = λ at z h. colon_front at z; word = refl }
 
@@ -154,10 +157,13 @@ IsCleanScalar (signed minus w) = IsClean (word_token w)
 IsCleanScalar (strings s []) = IsClean (str s)
 IsCleanScalar (strings s (x ∷ ss)) = ⊥
 
+abbrev pub IsFullNameShown : FullName → Type 0
+IsFullNameShown n = (is_identifier n.first ≡ true) × AllByRecursion (λ w. is_identifier w ≡ true) n.others
+
 abbrev pub IsNameShown : FieldName → Type 0
 IsNameShown (plain w) = is_identifier w ≡ true
-IsNameShown (extension n) = (is_identifier n.first ≡ true) × AllByRecursion (λ w. is_identifier w ≡ true) n.others
-IsNameShown (expansion d n) = ⊥
+IsNameShown (extension n) = IsFullNameShown n
+IsNameShown (expansion d n) = IsFullNameShown d × IsFullNameShown n
 
 -- a comma between two fields, or, pretty, no sign
 abbrev pub IsBetween : Bool → Separator → Fields → Type 0
@@ -197,20 +203,29 @@ scalar_written (signed false (identifier w)) c ts f h = (c, f.word, h)
 scalar_written (strings s []) c ts f h = (c, tt, h)
 scalar_written (strings s (x ∷ ss)) c ts f h = absurd c
 
-dots_follow : (ws : List Text) (ts : List Token) → is_at begins_word (flat_map dotted ws ++ sign 93 ∷ ts) ≡ false
-dots_follow [] ts = refl
-dots_follow (w ∷ ws) ts = refl
+dots_follow : (ws : List Text) (b : ℕ) (ts : List Token) → is_at begins_word (flat_map dotted ws ++ sign b ∷ ts) ≡ false
+dots_follow [] b ts = refl
+dots_follow (w ∷ ws) b ts = refl
 
-others_written : (ws : List Text) → AllByRecursion (λ w. is_identifier w ≡ true) ws → (ts : List Token) → AreWritten ts → AreWritten (flat_map dotted ws ++ sign 93 ∷ ts)
-others_written [] a ts h = (close_bracket_sign, inl refl, h)
-others_written (w ∷ ws) a ts h = (dot_sign, inr refl, (a.0, dots_follow ws ts, others_written ws a.1 ts h))
+-- before a sign that is no dot
+others_written : (ws : List Text) → AllByRecursion (λ w. is_identifier w ≡ true) ws → (b : ℕ) → IsSign b → (b == 46) ≡ false → (ts : List Token) → AreWritten ts → AreWritten (flat_map dotted ws ++ sign b ∷ ts)
+others_written [] a b clean no_dot ts h = (clean, inl no_dot, h)
+others_written (w ∷ ws) a b clean no_dot ts h = (dot_sign, inr refl, (a.0, dots_follow ws b ts, others_written ws a.1 b clean no_dot ts h))
+
+full_name_written : (n : FullName) → IsFullNameShown n → (b : ℕ) → IsSign b → (b == 46) ≡ false → (ts : List Token) → AreWritten ts → AreWritten (full_name_tokens n ++ sign b ∷ ts)
+full_name_written n c b clean no_dot ts h = (c.0, dots_follow n.others b ts, others_written n.others c.1 b clean no_dot ts h)
 
 pub name_written : (n : FieldName) → IsNameShown n → (ts : List Token) → Follows ts → AreWritten ts → AreWritten (name_tokens n ++ ts)
 name_written (plain w) c ts f h = (c, f.word, h)
 name_written (extension n) c ts f h =
-    subst (λ us. AreWritten (sign 91 ∷ ident n.first ∷ us)) (sym (append_assoc (flat_map dotted n.others) (sign 93 ∷ []) ts))
-    (bracket_sign, inl refl, (c.0, dots_follow n.others ts, others_written n.others c.1 ts h))
-name_written (expansion d n) c ts f h = absurd c
+    subst (λ us. AreWritten (sign 91 ∷ us)) (sym (append_assoc (full_name_tokens n) (sign 93 ∷ []) ts))
+    (bracket_sign, inl refl, full_name_written n c 93 close_bracket_sign refl ts h)
+name_written (expansion d n) c ts f h =
+    subst (λ us. AreWritten (sign 91 ∷ us))
+    (sym
+    (append_assoc (full_name_tokens d) (sign 47 ∷ (full_name_tokens n ++ sign 93 ∷ [])) ts
+    ∙ ap (λ us. full_name_tokens d ++ sign 47 ∷ us) (append_assoc (full_name_tokens n) (sign 93 ∷ []) ts)))
+    (bracket_sign, inl refl, full_name_written d c.0 47 slash_sign refl (full_name_tokens n ++ sign 93 ∷ ts) (full_name_written n c.1 93 close_bracket_sign refl ts h))
 
 more_follow : (vs : Values) (ts : List Token) → Follows (more_tokens vs ++ sign 93 ∷ ts)
 more_follow no_values ts = record { word = refl; dot = refl }

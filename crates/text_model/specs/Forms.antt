@@ -1,5 +1,5 @@
 -- The forms in which messages are printed.
-use Rattle.std.specs.Prelude.{◌≡◌, Bool, true, false}
+use Rattle.std.specs.Prelude.{Bool, true, false}
 use Rattle.text_model.specs.Tree.{Separator, no_separator, comma}
 
 pub record Form : Type 0 where
@@ -16,8 +16,3 @@ pub record Form : Type 0 where
 abbrev pub between : Bool → Separator
 between true = no_separator
 between false = comma
-
--- the fields that are set, and no others
-pub record ShowsSet (form : Form) : Type 0 where
-  pub set : form.defaults ≡ false
-  pub unexpanded : form.expands ≡ false

@@ -7,5 +7,7 @@ pub mod Forms
 pub mod Printed
 pub mod Identifiers
 pub mod Plain
+pub mod Unset
+pub mod Expansions
 pub mod Rendered
 pub mod Texts

@@ -109,9 +109,11 @@ abbrev pub text_in : Held → Text
 text_in (content (single (text s))) = s
 text_in _ = []
 
-abbrev pub bytes_in : Held → Text
-bytes_in (content (single (blob s))) = s
-bytes_in _ = []
+-- bytes that are not set are none; what is no bytes means no message
+abbrev pub bytes_in : Held → Option Text
+bytes_in (content (single (blob s))) = Some s
+bytes_in (content c) = None
+bytes_in (records ps) = Some []
 
 -- what messages of a type are printed as in an Any
 abbrev pub Inner : Type 0
@@ -132,7 +134,8 @@ abbrev pub in_any : Form → Schema → Inner → Name → Message → Option Fi
 in_any form w inner t m =
     cond (form.expands && w.is_any t)
     (option_and_then
-    (λ (url : Text × Text). option_map (expanded_as url) (held_in w inner url.1 (bytes_in (m 2))))
+    (λ (url : Text × Text). option_map (expanded_as url)
+    (option_and_then (held_in w inner url.1) (bytes_in (m 2))))
     (last_slash (text_in (m 1)))) None
 
 abbrev pub or_fields : Option Fields → Fields → Fields

@@ -1,12 +1,13 @@
 //! Laws of texts and of the messages that they give, each the contract of a function that does
 //! nothing.
-ghost use Rattle.std.specs.Prelude.{◌≡◌, ◌≤◌, ◌<◌, ◌^◌, ◌==◌, ◌↔◌, ℕ, false, [], ◌∷◌, Option, Some, option_and_then};
+ghost use Rattle.std.specs.Prelude.{◌≡◌, ◌≤◌, ◌<◌, ◌^◌, ◌==◌, ◌↔◌, ℕ, true, false, [], ◌∷◌, Option, Some, option_and_then};
 ghost use Rattle.std.specs.List.{filter};
 ghost use Rattle.protox_lex.specs.Class.{Text};
 ghost use Rattle.protobuf_model.specs.Coded.{SuitsType};
 ghost use Rattle.protobuf_model.specs.Types.{Field, Name};
 ghost use Rattle.protobuf_model.specs.Values.{Message, nothing};
-ghost use Rattle.text_model.specs.Forms.{Form, ShowsSet};
+ghost use Rattle.text_model.specs.Expansions.{HasOneForm};
+ghost use Rattle.text_model.specs.Forms.{Form};
 ghost use Rattle.text_model.specs.Identifiers.{HaveIdentifiers};
 ghost use Rattle.text_model.specs.Plain.{IsPlain};
 ghost use Rattle.text_model.specs.Printed.{IsInOrder, printed, printing_order};
@@ -15,6 +16,7 @@ ghost use Rattle.text_model.specs.Schemas.{AreNames, HaveNames, Names, Schema, S
 ghost use Rattle.text_model.specs.Texts.{Gives, IsMerged, Spells};
 ghost use Rattle.text_model.specs.Tokens.{fields_tokens, open_braces};
 ghost use Rattle.text_model.specs.Tree.{Fields, append};
+ghost use Rattle.text_model.specs.Unset.{HaveReadDefaults};
 ghost use Rattle.text_model.specs.Value.{value};
 
 /// Tokens are those of one tree at most.
@@ -53,33 +55,43 @@ pub fn each_number_is_printed_once()
         → filter (λ q. q == n) (printing_order form names type) ≡ n ∷ [] }
 {}
 
-/// The fields that a message is printed as give the message, in each form that prints the fields
-/// that are set and no others.
+/// The fields that a message is printed as give the message: with defaults, where what is printed
+/// of a field that is not set is read as such; with expansions, where each Any that is expanded
+/// holds the one form of a message and nothing else.
 pub fn printed_fields_give_the_message()
-    ensures { (form : Form) → ShowsSet form → (w : Schema) → HaveNames w → (t : Name) (m : Message)
-        → SuitsType w.types t m → IsPlain w.types t m
+    ensures { (form : Form) (w : Schema) → HaveNames w
+        → (form.defaults ≡ true → HaveReadDefaults w.types)
+        → (t : Name) (m : Message) → SuitsType w.types t m → IsPlain w.types t m
+        → (form.expands ≡ true → HasOneForm 100 w t m)
         → value w (shape_of w t) (printed form w t m) nothing ≡ Some m }
 {}
 
 /// What is written of them is cut into their tokens again, where names are identifiers.
 pub fn printed_texts_spell_what_is_printed()
-    ensures { (form : Form) → ShowsSet form → (w : Schema) → HaveIdentifiers w
+    ensures { (form : Form) (w : Schema) → HaveIdentifiers w
+        → (form.defaults ≡ true → HaveReadDefaults w.types)
         → (t : Name) (m : Message) → SuitsType w.types t m → IsPlain w.types t m
+        → (form.expands ≡ true → HasOneForm 100 w t m)
         → Spells (text_of form (printed form w t m)) (printed form w t m) }
 {}
 
 /// So it gives the message, if no more than 100 braces are open in it at once.
 pub fn printed_texts_give_the_message()
-    ensures { (form : Form) → ShowsSet form → (w : Schema) → HaveNames w → HaveIdentifiers w
+    ensures { (form : Form) (w : Schema) → HaveNames w → HaveIdentifiers w
+        → (form.defaults ≡ true → HaveReadDefaults w.types)
         → (t : Name) (m : Message) → SuitsType w.types t m → IsPlain w.types t m
+        → (form.expands ≡ true → HasOneForm 100 w t m)
         → open_braces (printed form w t m) ≤ 100
         → Gives w t (text_of form (printed form w t m)) m }
 {}
 
 /// Two such messages have the same text exactly if they are equal.
 pub fn equal_messages_have_equal_texts()
-    ensures { (form : Form) → ShowsSet form → (w : Schema) → HaveNames w → HaveIdentifiers w
-        → (t : Name) (m n : Message)
-        → SuitsType w.types t m → IsPlain w.types t m → SuitsType w.types t n → IsPlain w.types t n
+    ensures { (form : Form) (w : Schema) → HaveNames w → HaveIdentifiers w
+        → (form.defaults ≡ true → HaveReadDefaults w.types) → (t : Name) (m n : Message)
+        → SuitsType w.types t m → IsPlain w.types t m
+        → (form.expands ≡ true → HasOneForm 100 w t m)
+        → SuitsType w.types t n → IsPlain w.types t n
+        → (form.expands ≡ true → HasOneForm 100 w t n)
         → (text_of form (printed form w t m) ≡ text_of form (printed form w t n)) ↔ (m ≡ n) }
 {}
