@@ -172,23 +172,7 @@ type_at n =
 
 back : (t : TypeNumber) → type_at (size_of (type_number t)) ≡ t
 back numbers.Double = refl
-back numbers.Float = refl
-back numbers.Int64 = refl
-back numbers.Uint64 = refl
-back numbers.Int32 = refl
-back numbers.Fixed64 = refl
-back numbers.Fixed32 = refl
-back numbers.Bool = refl
-back numbers.String = refl
-back numbers.Group = refl
-back numbers.Message = refl
-back numbers.Bytes = refl
-back numbers.Uint32 = refl
-back numbers.Enum = refl
-back numbers.Sfixed32 = refl
-back numbers.Sfixed64 = refl
-back numbers.Sint32 = refl
-back numbers.Sint64 = refl
+back t = refl
 
 -- no two types have one number
 one_type : (t u : TypeNumber) → type_number t ≡ type_number u → t ≡ u

@@ -1,5 +1,6 @@
 -- Lists, and the keys of maps' entries, among the fields of a batch's messages.
 use Rattle.std.proofs.Common.{◌≡◌, ◌⊎◌, inl, inr, ℕ, ℤ, pos, Bool, true, false, not, cond, ◌==◌, List, [], ◌∷◌, map, Option, None, Some, is_some, unwrap_or, String, refl, sym, ap, ◌∙◌, subst, arith, slice_get, slice_index_or}
+use Rattle.std.proofs.lemmas.Option.{same_Some}
 use Rattle.std.proofs.lemmas.Bool.{and_parts}
 use Rattle.std.specs.declared.alloc.Global.{Global}
 use Rattle.std.specs.List.{find}
@@ -90,24 +91,21 @@ extension_list s at full holds r f is = record {
 
 -- ---- keys
 
-some_one : (j k : KindType) → Some j ≡ Some k → j ≡ k
-some_one j k e = cc e
-
 -- the types of keys hold what keys hold
 key_kind : (t : TypeNumber) (k : KindType) → is_key_type (Some (type_number t)) ≡ true
     → scalar_type t ≡ Some k → IsKeyKind k
-key_kind numbers.Int64 k e s = subst IsKeyKind (some_one types.int64 k s) tt
-key_kind numbers.Uint64 k e s = subst IsKeyKind (some_one types.uint64 k s) tt
-key_kind numbers.Int32 k e s = subst IsKeyKind (some_one types.int32 k s) tt
-key_kind numbers.Fixed64 k e s = subst IsKeyKind (some_one types.fixed64 k s) tt
-key_kind numbers.Fixed32 k e s = subst IsKeyKind (some_one types.fixed32 k s) tt
-key_kind numbers.Bool k e s = subst IsKeyKind (some_one types.bool k s) tt
-key_kind numbers.String k e s = subst IsKeyKind (some_one types.string k s) tt
-key_kind numbers.Uint32 k e s = subst IsKeyKind (some_one types.uint32 k s) tt
-key_kind numbers.Sfixed32 k e s = subst IsKeyKind (some_one types.sfixed32 k s) tt
-key_kind numbers.Sfixed64 k e s = subst IsKeyKind (some_one types.sfixed64 k s) tt
-key_kind numbers.Sint32 k e s = subst IsKeyKind (some_one types.sint32 k s) tt
-key_kind numbers.Sint64 k e s = subst IsKeyKind (some_one types.sint64 k s) tt
+key_kind numbers.Int64 k e s = subst IsKeyKind (same_Some types.int64 k s) tt
+key_kind numbers.Uint64 k e s = subst IsKeyKind (same_Some types.uint64 k s) tt
+key_kind numbers.Int32 k e s = subst IsKeyKind (same_Some types.int32 k s) tt
+key_kind numbers.Fixed64 k e s = subst IsKeyKind (same_Some types.fixed64 k s) tt
+key_kind numbers.Fixed32 k e s = subst IsKeyKind (same_Some types.fixed32 k s) tt
+key_kind numbers.Bool k e s = subst IsKeyKind (same_Some types.bool k s) tt
+key_kind numbers.String k e s = subst IsKeyKind (same_Some types.string k s) tt
+key_kind numbers.Uint32 k e s = subst IsKeyKind (same_Some types.uint32 k s) tt
+key_kind numbers.Sfixed32 k e s = subst IsKeyKind (same_Some types.sfixed32 k s) tt
+key_kind numbers.Sfixed64 k e s = subst IsKeyKind (same_Some types.sfixed64 k s) tt
+key_kind numbers.Sint32 k e s = subst IsKeyKind (same_Some types.sint32 k s) tt
+key_kind numbers.Sint64 k e s = subst IsKeyKind (same_Some types.sint64 k s) tt
 key_kind t k e s = absurd (cc e)
 
 -- ---- entries

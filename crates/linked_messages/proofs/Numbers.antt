@@ -8,7 +8,7 @@ use Rattle.reflect_fields.specs.Fields.{natural}
 use Rattle.reflect_names.specs.Names.{Places}
 use Rattle.reflect_references.specs.Meanings.{meaning, behind}
 use Rattle.reflect_rules.specs.Numbers.{is_field_number, number_faults, reserved_faults, kept_faults, outside_faults, oneof_faults}
-use Rattle.reflect_rules.specs.Rules.{Values, FaultsOf, FieldFaults, ExtensionFaults, ExtensionNumber, older_faults, default_faults, number_of, parent_of, message_of}
+use Rattle.reflect_rules.specs.Rules.{Values, FaultsOf, FieldFaults, FieldFindings, ExtensionFaults, ExtensionFindings, ExtensionNumber, older_faults, default_faults, number_of, parent_of, message_of}
 use Rattle.reflect_rules.specs.TypesSay.{TypesSay}
 use Rattle.reflect_rules.specs.Walks.{Facts, Place}
 use Rattle.reflect_tables.specs.Ranges.{Range, IsRangeOf}
@@ -54,10 +54,22 @@ none_kept : (at : Places) (path : List ℤ) (n : ℤ) (rs : List Range) (o : Opt
 none_kept at path n rs None e h = h
 none_kept at path n rs (Some r) e h = absurd (cc e)
 
-read_field : (g : Facts) (values : Values) (oneofs : ℕ) (at : Places) (path : List ℤ) (i : ℕ)
+-- each rule of fields finds nothing in this one
+pub record NoneFound (g : Facts) (values : Values) (oneofs : ℕ) (at : Places) (path : List ℤ)
+    (i : ℕ) (r : FieldDescriptorProto) (m : Option DefinitionKind)
+    (found : FieldFindings g values m i (number_of r) r) : Type 0 where
+  pub number : number_faults at path (number_of r) ≡ []
+  pub reserved : reserved_faults at path (number_of r) found.reserved ≡ []
+  pub kept : kept_faults at path (number_of r) found.kept ≡ []
+  pub oneof : oneof_faults at path oneofs r.oneof_index ≡ []
+  pub older : older_faults at path g.types g.first (message_of m) ≡ []
+  pub default : default_faults at path r.default_value found.suits ≡ []
+
+pub none_found : (g : Facts) (values : Values) (oneofs : ℕ) (at : Places) (path : List ℤ) (i : ℕ)
     (r : FieldDescriptorProto) (m : Option DefinitionKind)
-    → FieldFaults g values oneofs at path i r (number_of r) m [] → IsFree g.types i r
-read_field g values oneofs at path i r m (found, none) =
+    → (h : FieldFaults g values oneofs at path i r (number_of r) m [])
+    → NoneFound g values oneofs at path i r m h.0
+none_found g values oneofs at path i r m (found, none) =
     let n = number_of r in
     let one = number_faults at path n in
     let two = one ++ reserved_faults at path n found.reserved in
@@ -70,8 +82,23 @@ read_field g values oneofs at path i r m (found, none) =
     let second = none_both two (kept_faults at path n found.kept) third.0 in
     let first = none_both one (reserved_faults at path n found.reserved) second.0 in
     record {
-      number = unfaulted (is_field_number n) _ first.0;
-      free = none_kept at path n (g.types.extensions i) found.kept second.1 found.is_kept;
+      number = first.0;
+      reserved = first.1;
+      kept = second.1;
+      oneof = third.1;
+      older = fourth.1;
+      default = fifth.1;
+    }
+
+read_field : (g : Facts) (values : Values) (oneofs : ℕ) (at : Places) (path : List ℤ) (i : ℕ)
+    (r : FieldDescriptorProto) (m : Option DefinitionKind)
+    → FieldFaults g values oneofs at path i r (number_of r) m [] → IsFree g.types i r
+read_field g values oneofs at path i r m h =
+    let none = none_found g values oneofs at path i r m h in
+    let n = number_of r in
+    record {
+      number = unfaulted (is_field_number n) _ none.number;
+      free = none_kept at path n (g.types.extensions i) h.0.kept none.kept h.0.is_kept;
     }
 
 pub field_free : (g : Facts) (values : Values) (q : Place) (at : Places) (d : Declaration)
@@ -95,26 +122,43 @@ some_kept : (at : Places) (path : List ℤ) (n : ℤ) (name : List ℕ) (rs : Li
 some_kept at path n name rs None e h = absurd (cc e)
 some_kept at path n name rs (Some r) e h = (r, h)
 
-read_extension : (g : Facts) (values : Values) (at : Places) (path : List ℤ)
-    (r : FieldDescriptorProto) (i : ℕ) (extendee m : Option DefinitionKind)
-    → ExtensionFaults g values at path r (number_of r) extendee m []
-    → extendee ≡ Some (kind.Message i) → IsKeptFor g.types i r
-read_extension g values at path r i extendee m (found, none) extended =
-    let n = number_of r in
-    let one = number_faults at path n in
+-- each rule of extensions finds nothing in this one
+pub record NoneFoundIn (g : Facts) (values : Values) (at : Places) (path : List ℤ)
+    (r : FieldDescriptorProto) (extendee m : Option DefinitionKind)
+    (found : ExtensionFindings g values at path r (number_of r) extendee m) : Type 0 where
+  pub number : number_faults at path (number_of r) ≡ []
+  pub numbers : found.numbers ≡ []
+  pub older : older_faults at path g.types g.first (message_of m) ≡ []
+  pub default : default_faults at path r.default_value found.suits ≡ []
+
+pub none_found_in : (g : Facts) (values : Values) (at : Places) (path : List ℤ)
+    (r : FieldDescriptorProto) (extendee m : Option DefinitionKind)
+    → (h : ExtensionFaults g values at path r (number_of r) extendee m [])
+    → NoneFoundIn g values at path r extendee m h.0
+none_found_in g values at path r extendee m (found, none) =
+    let one = number_faults at path (number_of r) in
     let two = one ++ found.numbers in
     let three = two ++ older_faults at path g.types g.first (message_of m) in
     let third = none_both three (default_faults at path r.default_value found.suits) (sym none) in
     let second = none_both two (older_faults at path g.types g.first (message_of m)) third.0 in
     let first = none_both one found.numbers second.0 in
-    let own : ExtensionNumber g.types at path n (Some i) found.numbers =
-    subst (λ m. ExtensionNumber g.types at path n (message_of m) found.numbers) extended
-    found.is_number in
+    record { number = first.0; numbers = first.1; older = second.1; default = third.1 }
+
+read_extension : (g : Facts) (values : Values) (at : Places) (path : List ℤ)
+    (r : FieldDescriptorProto) (i : ℕ) (extendee m : Option DefinitionKind)
+    → ExtensionFaults g values at path r (number_of r) extendee m []
+    → extendee ≡ Some (kind.Message i) → IsKeptFor g.types i r
+read_extension g values at path r i extendee m h extended =
+    let none = none_found_in g values at path r extendee m h in
+    let n = number_of r in
+    let own : ExtensionNumber g.types at path n (Some i) h.0.numbers =
+    subst (λ m. ExtensionNumber g.types at path n (message_of m) h.0.numbers) extended
+    h.0.is_number in
     let parts = none_both (reserved_faults at path n own.0)
-    (outside_faults at path n (g.types.name i) own.1) (sym own.4 ∙ first.1) in
+    (outside_faults at path n (g.types.name i) own.1) (sym own.4 ∙ none.numbers) in
     let range = some_kept at path n (g.types.name i) (g.types.extensions i) own.1 parts.1 own.3 in
     record {
-      number = unfaulted (is_field_number n) _ first.0;
+      number = unfaulted (is_field_number n) _ none.number;
       range = range.0;
       kept = range.1;
     }

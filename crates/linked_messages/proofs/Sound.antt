@@ -19,7 +19,7 @@ use Rattle.reflect_index.specs.declared.batch.Batch.{Batch}
 use Rattle.reflect_message.specs.KindTypes.{IsScalarType}
 use Rattle.reflect_message.specs.Known.{entry_field, holds_floats, if_held, numbered_field, known_field, known_extension}
 use Rattle.reflect_scalar.specs.Defaults.{default_in}
-use Rattle.reflect_scalar.specs.Singles.{Single, truth, int32, int64, uint32, uint64, text, blob, enumerated}
+use Rattle.reflect_scalar.specs.Singles.{Single, text, blob, enumerated}
 use Rattle.protobuf_model.specs.Bytes.{is_packable}
 use Rattle.protobuf_model.specs.Scalars.{Suits}
 use Rattle.protobuf_model.specs.Values as model
@@ -39,17 +39,12 @@ use Rattle.linked_messages.proofs.Grown.{IsNew, type_stays, field_within, which_
 
 -- what a value of a key's kind is
 key_value : (k : KindType) (v : Single) → IsKeyKind k → IsOfKind k v → IsKeyValue (Some v)
-key_value k (truth b) i h = tt
-key_value k (int32 z) i h = tt
-key_value k (int64 z) i h = tt
-key_value k (uint32 n) i h = tt
-key_value k (uint64 n) i h = tt
-key_value k (text t) i h = tt
 key_value types.bytes (blob b) i h = absurd i
 key_value (types.message j) (blob b) i h = absurd i
 key_value k (blob b) i h = absurd h
 key_value (types.enumeration j) (enumerated z) i h = absurd i
 key_value k (enumerated z) i h = absurd h
+key_value k v i h = tt
 
 -- the model packs what the rules do
 packs : (pool : PoolType) (group : Bool) (k : KindType) → fields.is_packable k ≡ true

@@ -110,17 +110,10 @@ SeenValue x =
     ≡ of_tree (trees.value_step (map-ValueOf MessageDescriptor blocks.Held Value DynamicMessage Parts MessageTree ValueTree ValueTree MessageTree tree_held tree tree_message tree_parts x))
 
 value_told : (y : ValueOf-F MessageDescriptor ToldHeld ToldValue ToldMessage ToldParts) → SeenValue (map-ValueOf MessageDescriptor ToldHeld ToldValue ToldMessage ToldParts blocks.Held Value DynamicMessage Parts (λ e. e.0) (λ e. e.0) (λ e. e.0) (λ e. e.0) y)
-value_told (ValueOf-F.Bool b) = refl
-value_told (ValueOf-F.I32 z) = refl
-value_told (ValueOf-F.I64 z) = refl
-value_told (ValueOf-F.U32 n) = refl
-value_told (ValueOf-F.U64 n) = refl
-value_told (ValueOf-F.String t) = refl
-value_told (ValueOf-F.Bytes b) = refl
-value_told (ValueOf-F.EnumNumber z) = refl
 value_told (ValueOf-F.Message m) = m.1
 value_told (ValueOf-F.List vs) = row_told vs.items
 value_told (ValueOf-F.Map es) = ap dictionary (entries_told es.entries)
+value_told y = refl
 
 abbrev SeenHeld : HeldOf-F MessageDescriptor blocks.Held Value DynamicMessage Parts → Type 0
 SeenHeld x = (pool : PoolType) (i n : ℕ)
@@ -174,7 +167,7 @@ parts_told y pool i n =
     ∙ ap (λ o. held_either pool f x (of_place (place_of (value_at t.fields n))) o (payloads n (undeclared s.unknown))) (under_told y.extensions n)
 
 -- a value is seen as its tree tells
-pub told : (v : Value) → content_view v ≡ of_tree (tree v)
+told : (v : Value) → content_view v ≡ of_tree (tree v)
 told = ind-ValueOf MessageDescriptor HeldTold ValueTold MessageTold PartsTold
     (λ x y is pool i n. ap (λ s. s pool i n) (fold-roll-HeldOf MessageDescriptor Placed Content Message Placed held_step value_step message_step parts_step x) ∙ subst SeenHeld is (held_told y) pool i n ∙ sym (ap (λ t. of_message t pool i n) (fold-roll-HeldOf MessageDescriptor MessageTree ValueTree ValueTree MessageTree trees.held_step trees.value_step trees.message_step trees.parts_step x)))
     (λ x y is. fold-roll-ValueOf MessageDescriptor Placed Content Message Placed held_step value_step message_step parts_step x ∙ subst SeenValue is (value_told y) ∙ sym (ap of_tree (fold-roll-ValueOf MessageDescriptor MessageTree ValueTree ValueTree MessageTree trees.held_step trees.value_step trees.message_step trees.parts_step x)))

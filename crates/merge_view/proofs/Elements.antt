@@ -39,7 +39,7 @@ single_behind inner pool f h new ps type (v, w, put, is, (kind, lead, p, kind_of
     ∙ sym (ap (λ o. held_in pool f (option_map content_view o)) put ∙ ap (λ c. held_in pool f (Some c)) (single_seen v w is))
 
 -- behind the items of a list stand those of the records
-pub items_are : (pool : PoolType) (f : FieldType) (old : Option Value) (before : List Value) → items_held old ≡ Some before → items (held_in pool f (option_map content_view old)) ≡ map content_view before
+items_are : (pool : PoolType) (f : FieldType) (old : Option Value) (before : List Value) → items_held old ≡ Some before → items (held_in pool f (option_map content_view old)) ≡ map content_view before
 items_are pool f old before e = ap items (sym (list_held pool f old before e)) ∙ items-if_any (map content_view before)
 
 behind : (pool : PoolType) (f : FieldType) (old new : Option Value) (before after added : List Value) (cs : List model.Content) → items_held old ≡ Some before → items_held new ≡ Some after → after ≡ before ++ added → cs ≡ map content_view added

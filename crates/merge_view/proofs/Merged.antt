@@ -1,6 +1,7 @@
 -- What records leave behind what a message holds, number by number and level by level.
-use Rattle.std.proofs.Common.{◌≡◌, ◌<◌, inl, inr, ℕ, zero, suc, Bool, true, false, true≢false, cond, List, [], ◌∷◌, ◌++◌, map, length, Option, Some, None, option_map, refl, sym, ap, ◌∙◌, subst}
+use Rattle.std.proofs.Common.{◌≡◌, ◌<◌, ℕ, zero, suc, Bool, true, false, true≢false, cond, List, [], ◌∷◌, ◌++◌, map, length, Option, Some, None, option_map, refl, sym, ap, ◌∙◌, subst}
 use Rattle.std.specs.Option.{IsSome}
+use Rattle.std.proofs.lemmas.List.{map-append}
 use mathlib.Core.Path.{fun_ext}
 use Rattle.reflect_tables.specs.Types.{PoolType, FieldType}
 use Rattle.reflect_pool.specs.FieldsLeft.{field_type}
@@ -17,7 +18,6 @@ use Rattle.reflect_message.specs.Known.{holds_floats, known_field, known_extensi
 use Rattle.reflect_message.specs.Lists.{list_items}
 use Rattle.reflect_message.specs.Maps.{map_entries}
 use Rattle.reflect_message.specs.Names.{Value}
-use Rattle.reflect_decode.specs.Fields.{LeavesField}
 use Rattle.reflect_decode.specs.Keeps as keeps
 use Rattle.reflect_decode.specs.Levels.{TakenAt, TakesAt, MergesAt}
 use Rattle.reflect_decode.specs.Messages.{Takes}
@@ -28,19 +28,18 @@ use Rattle.reflect_decode.specs.Taking.{TakesAs, Leaves}
 use Rattle.message_laws.specs.MapKeys.{HaveMapKeys}
 use Rattle.protobuf_model.specs.Values as model
 use Rattle.protobuf_model.specs.Values.{Held, Message, records, absent}
-use Rattle.protobuf_model.specs.Types.{Name, Field, Types, one, many, keyed, oneof_of, rival}
+use Rattle.protobuf_model.specs.Types.{Name, Field, Types, one, many, keyed, oneof_of}
 use Rattle.protobuf_model.specs.Types as kinds
-use Rattle.protobuf_model.specs.Meaning.{Merge, is_in, payloads, standing, left_of, taken, kept, held_by, held, meaning_by, meaning}
+use Rattle.protobuf_model.specs.Meaning.{Merge, payloads, taken, kept, held_by, held, meaning_by, meaning}
 use Rattle.protobuf_model.specs.Typed.{IsHeldOf, IsTyped}
-use Rattle.protobuf_model.proofs.Bridge.{stands_alone, stands_behind}
 use Rattle.message_view.specs.Sound.{HaveEntryDefaults}
 use Rattle.message_view.specs.Types.{name_at, part_of, key_of, entry_part, values_of, label_of, field_of, oneof_at, either_field, field_at}
 use Rattle.message_view.specs.Views.{held_in, held_either, content_view, contents_view, view_of}
 use Rattle.message_view.proofs.Elements.{Nests}
 use Rattle.message_view.proofs.Entries.{Sort, plain, floating, message_type, sort_of}
-use Rattle.message_view.proofs.Fields.{owned, known, owned_whole, extension_owned, extension_whole, known_extension_is, none_owned, not_declared}
-use Rattle.message_view.proofs.Left.{list_is, entry_at, field_left, inner_of, joined_at, meaning_at, leaves_meaning, merged_left}
-use Rattle.message_view.proofs.Oneofs.{payloads_same, sibling_is_rival, no_rivals, no_self, no_oneof}
+use Rattle.message_view.proofs.Fields.{by_number, owned, owned_whole, extension_owned, extension_whole, none_owned, not_declared}
+use Rattle.message_view.proofs.Left.{Leave, alone, field_stands, list_is, entry_at, field_left, inner_of, joined_at, meaning_at, leaves_meaning, merged_left}
+use Rattle.message_view.proofs.Oneofs.{payloads_same, no_oneof}
 use Rattle.message_view.proofs.Accepting.{not_float}
 use Rattle.message_view.proofs.Seen.{value_at-view}
 use Rattle.merge_view.proofs.Elements.{single_behind, list_stays, values_behind, messages_behind, GoesOn, SuitsPart, message_behind}
@@ -106,7 +105,7 @@ module _ (pool : PoolType) (keyed_maps : HaveMapKeys pool) (defaults : HaveEntry
         subst (λ b. Goal f v (Some v) [] b (is_repeated f.cardinality)) (sym is) (subst (Goal f v (Some v) [] false) (sym list) (listed (holds_list pool f) fits))
 
   -- what the records of a field leave behind what it holds
-  pub field_behind : (f : FieldType) (old new : Option Value) (ps : List Payload) → holds_floats pool f ≡ false → HeldSuits suits pool f old → IsHeldOf typed levels (Some (field_of pool o x f)) (held_in pool f (option_map content_view old)) → Leaves takes pool f old new ps
+  field_behind : (f : FieldType) (old new : Option Value) (ps : List Payload) → holds_floats pool f ≡ false → HeldSuits suits pool f old → IsHeldOf typed levels (Some (field_of pool o x f)) (held_in pool f (option_map content_view old)) → Leaves takes pool f old new ps
       → held_by inner (part_of pool (values_of pool f)) (label_of pool f) (held_in pool f (option_map content_view old)) ps ≡ held_in pool f (option_map content_view new)
   field_behind f None new ps whole shape is leaves = field_left pool keyed_maps defaults inner takes nests f new ps whole leaves
   field_behind f (Some v) new [] whole shape is leaves = none_behind f v shape ∙ sym (ap (λ o. held_in pool f (option_map content_view o)) leaves)
@@ -123,30 +122,8 @@ module _ (d : MessageDescriptor) (keyed_maps : HaveMapKeys d.pool.now) (defaults
   abbrev start : ℕ → Held
   start n = view_of d.pool.now d.index old n
 
-  abbrev Leave : ℕ → Held → Type 0
-  Leave n h = held inner (type n) (left_of (rival type n) (start n) rs) (standing (rival type n) n rs) ≡ h
-
-  alone : (n : ℕ) (h : Held) → is_in (rival type n) rs ≡ false → held inner (type n) (start n) (payloads n rs) ≡ h → Leave n h
-  alone n h none e = stands_alone inner (type n) (rival type n) n (start n) rs none ∙ e
-
-  -- the records of a field that stand, behind what was held or behind nothing
-  field_stands : (f : FieldDescriptor) → Owns d f → (before after : Option Value) (h : Held)
-      → ((ps : List Payload) → Leaves takes d.pool.now (field_type f) before after ps → held inner (type (field_type f).number) (start (field_type f).number) ps ≡ h)
-      → ((ps : List Payload) → Leaves takes d.pool.now (field_type f) None after ps → held inner (type (field_type f).number) absent ps ≡ h)
-      → LeavesField takes d f before after rs → Leave (field_type f).number h
-  field_stands f owns before after h settled fresh (inl (none, leaves)) =
-      let n = (field_type f).number in
-      alone n h (no_rivals d type told f owns rs none)
-      (ap (held inner (type n) (start n)) (sym (payloads_same n rs)) ∙ settled (keeps.payloads n rs) (subst (λ p. Leaves takes p (field_type f) before after (keeps.payloads n rs)) owns.0.1 leaves))
-  field_stands f owns before after h settled fresh (inr (lead, behind, r, is, sibling, none, leaves)) =
-      let n = (field_type f).number in
-      ap (λ rs. held inner (type n) (left_of (rival type n) (start n) rs) (standing (rival type n) n rs)) is
-      ∙ stands_behind inner (type n) (rival type n) n (start n) lead behind r (sibling_is_rival d type told f owns r.0 sibling) (no_self d type told n) (no_rivals d type told f owns behind none)
-      ∙ ap (held inner (type n) absent) (sym (payloads_same n behind))
-      ∙ fresh (keeps.payloads n behind) (subst (λ p. Leaves takes p (field_type f) None after (keeps.payloads n behind)) owns.0.1 leaves)
-
   abbrev Stands : ℕ → Type 0
-  Stands n = Leave n (view_of d.pool.now d.index new n)
+  Stands n = Leave d types told inner takes start rs n (view_of d.pool.now d.index new n)
 
   abbrev seen : Content → Option FieldType → Option FieldType → ℕ → Held
   seen c f x n = held_either d.pool.now f x (value_at (contents_view c.fields) n) (value_at (contents_view c.extensions) n) (payloads n c.unknown)
@@ -166,7 +143,7 @@ module _ (d : MessageDescriptor) (keyed_maps : HaveMapKeys d.pool.now) (defaults
       let fits : HeldSuits suits pool g before = subst (λ p. HeldSuits suits p g before) owns.0.1 (suited.fields f owns) in
       let is_typed : IsHeldOf typed levels (Some (field_of pool (oneof_at pool d.index g) false g)) (held_in pool g (option_map content_view before)) =
       subst (IsHeldOf typed levels (Some (field_of pool (oneof_at pool d.index g) false g))) (sym (seen_as old)) (subst (λ o. IsHeldOf typed levels o (start n)) field (holds n)) in
-      field_stands f owns before after (view_of pool d.index new n)
+      field_stands d types told inner takes start rs f owns before after (view_of pool d.index new n)
       (λ ps leaves. ap (λ o. held inner o (start n) ps) field ∙ ap (λ h. held inner (Some (field_of pool (oneof_at pool d.index g) false g)) h ps) (sym (seen_as old))
       ∙ field_behind pool keyed_maps defaults inner takes nests suits typed levels goes_on (oneof_at pool d.index g) false g before after ps whole fits is_typed leaves ∙ seen_as new)
       (λ ps leaves. ap (λ o. held inner o absent ps) field ∙ field_left pool keyed_maps defaults inner takes nests g after ps whole leaves ∙ seen_as new)
@@ -191,7 +168,7 @@ module _ (d : MessageDescriptor) (keyed_maps : HaveMapKeys d.pool.now) (defaults
       let is_typed : IsHeldOf typed levels (Some (field_of pool None true g)) (held_in pool g (option_map content_view before)) =
       subst (IsHeldOf typed levels (Some (field_of pool None true g))) (sym (seen_as old)) (subst (λ o. IsHeldOf typed levels o (start n)) field (holds n)) in
       let leaves = subst (λ p. Leaves takes p g before after (keeps.payloads n rs)) owns.0.0 (merges.extended.each x owns free) in
-      alone n (view_of pool d.index new n) (no_oneof d type told n (ap oneof_of field) rs)
+      alone d types told inner takes start rs n (view_of pool d.index new n) (no_oneof d type told n (ap oneof_of field) rs)
       (ap (held inner (type n) (start n)) (sym (payloads_same n rs)) ∙ ap (λ o. held inner o (start n) (keeps.payloads n rs)) field
       ∙ ap (λ h. held inner (Some (field_of pool None true g)) h (keeps.payloads n rs)) (sym (seen_as old))
       ∙ field_behind pool keyed_maps defaults inner takes nests suits typed levels goes_on None true g before after (keeps.payloads n rs) (extension_whole d x owns) fits is_typed leaves ∙ seen_as new)
@@ -203,22 +180,12 @@ module _ (d : MessageDescriptor) (keyed_maps : HaveMapKeys d.pool.now) (defaults
       let seen_as : (c : Content) → records (payloads n c.unknown) ≡ view_of d.pool.now d.index c n = λ c. sym (ap (λ o. seen c o (known_extension d.pool.now d.index n) n) none ∙ ap (λ o. seen c None o n) also) in
       let behind : payloads n new.unknown ≡ payloads n old.unknown ++ payloads n rs =
       sym (payloads_same n new.unknown) ∙ ap (map (λ (r : ℕ × Payload). r.1)) (merges.unknown.behind n (not_declared d n none also))
-      ∙ each_behind (keeps.numbered n old.unknown) (keeps.numbered n rs) ∙ ap (λ ps. ps ++ keeps.payloads n rs) (payloads_same n old.unknown) ∙ ap (λ ps. payloads n old.unknown ++ ps) (payloads_same n rs) in
-      alone n (view_of d.pool.now d.index new n) (no_oneof d type told n (ap oneof_of field) rs)
-      (ap (λ o. held inner o (start n) (payloads n rs)) field ∙ ap (λ h. records (kept h ++ payloads n rs)) (sym (seen_as old)) ∙ sym (ap records behind) ∙ seen_as new) where
-        each_behind : (a b : List (ℕ × Payload)) → map (λ (r : ℕ × Payload). r.1) (a ++ b) ≡ map (λ (r : ℕ × Payload). r.1) a ++ map (λ (r : ℕ × Payload). r.1) b
-        each_behind [] b = refl
-        each_behind (r ∷ a) b = ap (λ ps. r.1 ∷ ps) (each_behind a b)
+      ∙ map-append (λ (r : ℕ × Payload). r.1) (keeps.numbered n old.unknown) (keeps.numbered n rs) ∙ ap (λ ps. ps ++ keeps.payloads n rs) (payloads_same n old.unknown) ∙ ap (λ ps. payloads n old.unknown ++ ps) (payloads_same n rs) in
+      alone d types told inner takes start rs n (view_of d.pool.now d.index new n) (no_oneof d type told n (ap oneof_of field) rs)
+      (ap (λ o. held inner o (start n) (payloads n rs)) field ∙ ap (λ h. records (kept h ++ payloads n rs)) (sym (seen_as old)) ∙ sym (ap records behind) ∙ seen_as new)
 
-  pub all_behind : meaning_by inner types (name_at d.pool.now d.index) (view_of d.pool.now d.index old) rs ≡ view_of d.pool.now d.index new
-  all_behind = fun_ext (λ n. by n (known_field d.pool.now d.index n) refl (known_extension d.pool.now d.index n) refl) where
-    by : (n : ℕ) (f : Option FieldType) → known_field d.pool.now d.index n ≡ f → (x : Option FieldType) → known_extension d.pool.now d.index n ≡ x → Stands n
-    by n (Some g) is x also = let h = known d n g is in subst Stands (ap (λ (t : FieldType). t.number) h.2 ∙ h.3) (at_field h.0 h.1)
-    by n None none (Some g) is =
-        let h = known_extension_is d n g is in
-        let number : (extension_type h.0).number ≡ n = ap (λ (t : FieldType). t.number) h.2 ∙ h.3 in
-        subst Stands number (at_extension h.0 h.1 (ap (known_field d.pool.now d.index) number ∙ none))
-    by n None none None also = at_neither n none also
+  all_behind : meaning_by inner types (name_at d.pool.now d.index) (view_of d.pool.now d.index old) rs ≡ view_of d.pool.now d.index new
+  all_behind = fun_ext (by_number d Stands at_field at_extension at_neither)
 
 -- which messages stand one level below
 abbrev typed_of : ℕ → Types → Name → Message → Type 0

@@ -5,7 +5,7 @@ use Rattle.reflect_pool.specs.Kinds.{IsKind}
 use Rattle.reflect_pool.specs.declared.enums.EnumDescriptor.{EnumDescriptor}
 use Rattle.reflect_pool.specs.declared.kind.Kind.{Kind}
 use Rattle.reflect_pool.specs.declared.kind.Kind.TheVariants as kinds
-use Rattle.reflect_wire.specs.Records.{Payload, varint, fixed64, delimited, group, fixed32, SpellsPayload}
+use Rattle.reflect_wire.specs.Records.{Payload, varint, fixed64, group, fixed32, SpellsPayload}
 use Rattle.reflect_wire.specs.declared.wire_key.WireType.{WireType}
 use Rattle.reflect_wire.specs.declared.wire_key.WireType.TheVariants as wires
 use Rattle.reflect_scalar.specs.Kinds.{kind_type, wire_type}
@@ -33,22 +33,7 @@ form_of_type _ = wires.Varint
 
 form_is : (k : Kind) → wire_type k ≡ form_of_type (kind_type k)
 form_is kinds.Double = refl
-form_is kinds.Float = refl
-form_is kinds.Int32 = refl
-form_is kinds.Int64 = refl
-form_is kinds.Uint32 = refl
-form_is kinds.Uint64 = refl
-form_is kinds.Sint32 = refl
-form_is kinds.Sint64 = refl
-form_is kinds.Fixed32 = refl
-form_is kinds.Fixed64 = refl
-form_is kinds.Sfixed32 = refl
-form_is kinds.Sfixed64 = refl
-form_is kinds.Bool = refl
-form_is kinds.String = refl
-form_is kinds.Bytes = refl
-form_is (kinds.Message m) = refl
-form_is (kinds.Enum e) = refl
+form_is k = refl
 
 pub same_form : (k l : Kind) → kind_type k ≡ kind_type l → wire_type k ≡ wire_type l
 same_form k l e = form_is k ∙ ap form_of_type e ∙ sym (form_is l)
@@ -93,8 +78,5 @@ no_group_form k e = cc
 
 -- what means a value is no group, and so is spelled at each level and under each number
 pub plain : (k : Kind) (levels n : ℕ) (front : List ℕ) (p : Payload) (v : Single) → StandsFor k p v → SpellsPayload levels n front p → SpellsPayload 0 0 front p
-plain k levels n front (varint x) v means h = h
-plain k levels n front (fixed64 x) v means h = h
-plain k levels n front (delimited x) v means h = h
-plain k levels n front (fixed32 x) v means h = h
 plain k levels n front (group rs) v means h = absurd (no_group_form k (form_of_meaning k (group rs) v means))
+plain k levels n front p v means h = h

@@ -53,41 +53,11 @@ meant_in pool kind t p v is h = ap (λ t. meant (scalar_of t) p) (kind_is pool k
 -- the wire type, and whether values are packed, of each kind
 pub wire_same : (k : Kind) → wire_type k ≡ scalars.wire_type (scalar_of (kind_type k))
 wire_same publics.Double = refl
-wire_same publics.Float = refl
-wire_same publics.Int32 = refl
-wire_same publics.Int64 = refl
-wire_same publics.Uint32 = refl
-wire_same publics.Uint64 = refl
-wire_same publics.Sint32 = refl
-wire_same publics.Sint64 = refl
-wire_same publics.Fixed32 = refl
-wire_same publics.Fixed64 = refl
-wire_same publics.Sfixed32 = refl
-wire_same publics.Sfixed64 = refl
-wire_same publics.Bool = refl
-wire_same publics.String = refl
-wire_same publics.Bytes = refl
-wire_same (publics.Message m) = refl
-wire_same (publics.Enum e) = refl
+wire_same k = refl
 
 pub packs_same : (k : Kind) → packs (wire_type k) ≡ scalars.packs (scalar_of (kind_type k))
 packs_same publics.Double = refl
-packs_same publics.Float = refl
-packs_same publics.Int32 = refl
-packs_same publics.Int64 = refl
-packs_same publics.Uint32 = refl
-packs_same publics.Uint64 = refl
-packs_same publics.Sint32 = refl
-packs_same publics.Sint64 = refl
-packs_same publics.Fixed32 = refl
-packs_same publics.Fixed64 = refl
-packs_same publics.Sfixed32 = refl
-packs_same publics.Sfixed64 = refl
-packs_same publics.Bool = refl
-packs_same publics.String = refl
-packs_same publics.Bytes = refl
-packs_same (publics.Message m) = refl
-packs_same (publics.Enum e) = refl
+packs_same k = refl
 
 -- a value that is a single one, where its content is set
 set_single : (pool : PoolType) (f : FieldType) (new : Option Value) (v : Value) (w : held.Single) → new ≡ Some v → singles.single v ≡ Some w → settle (part_of pool f) (single_view w) ≡ held_in pool f (option_map content_view new)

@@ -82,6 +82,19 @@ module _ (m : MessageDescriptor) where
         let types : extension_type x ≡ g = ap (λ (y : ExtensionType). y.field) (sym same) ∙ kept_y.1 in
         (x, ((refl, here.0), first, subst (λ (y : ExtensionType). HoldsFloats m.pool.now y.field → ⊥) same (unfloated m.pool.now y.field kept_y.0)), types, ap (λ (t : FieldType). t.number) (sym types) ∙ here.1)
 
+  -- what is so of each field, of each extension whose number no field has, and of a number of neither, is so of each number
+  pub by_number : (P : ℕ → Type 0) → ((f : FieldDescriptor) → Owns m f → P (field_type f).number)
+      → ((x : ExtensionDescriptor) → OwnsExtension m x → known_field m.pool.now m.index (extension_type x).number ≡ None → P (extension_type x).number)
+      → ((n : ℕ) → known_field m.pool.now m.index n ≡ None → known_extension m.pool.now m.index n ≡ None → P n) → (n : ℕ) → P n
+  by_number P field extension neither n = by (known_field m.pool.now m.index n) refl (known_extension m.pool.now m.index n) refl where
+    by : (f : Option FieldType) → known_field m.pool.now m.index n ≡ f → (x : Option FieldType) → known_extension m.pool.now m.index n ≡ x → P n
+    by (Some g) is x also = let h = known n g is in subst P (ap (λ (t : FieldType). t.number) h.2 ∙ h.3) (field h.0 h.1)
+    by None none (Some g) is =
+        let h = known_extension_is n g is in
+        let number : (extension_type h.0).number ≡ n = ap (λ (t : FieldType). t.number) h.2 ∙ h.3 in
+        subst P number (extension h.0 h.1 (ap (known_field m.pool.now m.index) number ∙ none))
+    by None none None also = neither n none also
+
   -- neither holds floating-point numbers
   pub owned_whole : (f : FieldDescriptor) → Owns m f → holds_floats m.pool.now (field_type f) ≡ false
   owned_whole f h = (held_is m.pool.now (field_type f) (field_type f) (kept m.pool.now (field_type f) (subst (λ p. HoldsFloats p (field_type f) → ⊥) h.0.1 h.2))).0

@@ -1,5 +1,5 @@
 -- How values are written, one level at a time.
-use Rattle.std.proofs.Common.{◌≡◌, ℕ, List, [], map, Some, unwrap_or, string_bytes, refl, ap, ◌∙◌}
+use Rattle.std.proofs.Common.{◌≡◌, ℕ, List, [], map, Some, unwrap_or, refl, ap, ◌∙◌, subst}
 use Rattle.reflect_tables.specs.Types.{PoolType}
 use Rattle.reflect_scalar.specs.Singles as held
 use Rattle.reflect_scalar.specs.declared.map_key.MapKey.{MapKey}
@@ -16,13 +16,14 @@ use Rattle.reflect_message.specs.Names as blocks
 use Rattle.reflect_message.specs.declared.parts.HeldOf.TheFolds.{map-ValueOf, map-HeldOf, fold-HeldOf, fold-ValueOf, fold-MessageOf, fold-PartsOf, fold_out-ValueOf, fold_out-HeldOf, fold_out-PartsOf, fold_out-MessageOf}
 use Rattle.reflect_message.specs.declared.parts.HeldOf.TheOpen.{HeldOf-F, ValueOf-F}
 use Rattle.reflect_message.specs.declared.parts.HeldOf.TheViews.{out-ValueOf}
-use Rattle.message_view.proofs.Seen.{single_in, message_of, items_of, entries_in, entries_opened, extensions_opened, unknown_opened}
+use Rattle.reflect_message.proofs.Alike.{Open, entries_in, items_in, message_of}
+use Rattle.message_view.proofs.Seen.{IsSeenAs, single_in, entries_opened, extensions_opened, unknown_opened}
 use Rattle.reflect_pool.specs.declared.message.MessageDescriptor.{MessageDescriptor}
 
 abbrev Placed : Type 0
 Placed = PoolType → ℕ → List ℕ
 
-abbrev stepped : ValueOf-F MessageDescriptor blocks.Held Value DynamicMessage Parts → Form
+abbrev stepped : Open → Form
 stepped o = value_step (map-ValueOf MessageDescriptor blocks.Held Value DynamicMessage Parts Placed Form (List ℕ) Placed
     (fold-HeldOf MessageDescriptor Placed Form (List ℕ) Placed held_step value_step message_step parts_step)
     (fold-ValueOf MessageDescriptor Placed Form (List ℕ) Placed held_step value_step message_step parts_step)
@@ -32,23 +33,11 @@ stepped o = value_step (map-ValueOf MessageDescriptor blocks.Held Value DynamicM
 opened : (v : Value) → form_of v ≡ stepped (out-ValueOf MessageDescriptor v)
 opened v = fold_out-ValueOf MessageDescriptor Placed Form (List ℕ) Placed held_step value_step message_step parts_step v
 
-unwrapped : (a w : held.Single) → Some a ≡ Some w → single_form a ≡ single_form w
-unwrapped a w e = ap (λ o. single_form (unwrap_or o a)) e
-
 pub single_form_seen : (v : Value) (w : held.Single) → singles.single v ≡ Some w → form_of v ≡ single_form w
-single_form_seen v w e = opened v ∙ by (out-ValueOf MessageDescriptor v) e where
-  by : (o : ValueOf-F MessageDescriptor blocks.Held Value DynamicMessage Parts) → single_in o ≡ Some w → stepped o ≡ single_form w
-  by (ValueOf-F.Bool b) e = unwrapped (held.truth b) w e
-  by (ValueOf-F.I32 z) e = unwrapped (held.int32 z) w e
-  by (ValueOf-F.I64 z) e = unwrapped (held.int64 z) w e
-  by (ValueOf-F.U32 n) e = unwrapped (held.uint32 n) w e
-  by (ValueOf-F.U64 n) e = unwrapped (held.uint64 n) w e
-  by (ValueOf-F.String t) e = unwrapped (held.text (string_bytes t)) w e
-  by (ValueOf-F.Bytes b) e = unwrapped (held.blob b.items) w e
-  by (ValueOf-F.EnumNumber z) e = unwrapped (held.enumerated z) w e
-  by (ValueOf-F.Message m) e = absurd (cc e)
-  by (ValueOf-F.List vs) e = absurd (cc e)
-  by (ValueOf-F.Map es) e = absurd (cc e)
+single_form_seen v w e = opened v ∙ subst (IsSeenAs single_form (stepped (out-ValueOf MessageDescriptor v))) e (by (out-ValueOf MessageDescriptor v)) where
+  by : (o : Open) → IsSeenAs single_form (stepped o) (single_in o)
+  by (ValueOf-F.Message m) = refl
+  by o = refl
 
 -- a message that is a value is written as the message that it is
 folded : (m : DynamicMessage) → fold-MessageOf MessageDescriptor Placed Form (List ℕ) Placed held_step value_step message_step parts_step m ≡ message_bytes m
@@ -56,51 +45,24 @@ folded m = fold_out-MessageOf MessageDescriptor Placed Form (List ℕ) Placed he
 
 pub message_form_seen : (v : Value) (m : DynamicMessage) → message_in v ≡ Some m → form_of v ≡ message_form (message_bytes m)
 message_form_seen v m e = opened v ∙ by (out-ValueOf MessageDescriptor v) e where
-  by : (o : ValueOf-F MessageDescriptor blocks.Held Value DynamicMessage Parts) → message_of o ≡ Some m → stepped o ≡ message_form (message_bytes m)
+  by : (o : Open) → message_of o ≡ Some m → stepped o ≡ message_form (message_bytes m)
   by (ValueOf-F.Message n) e = ap message_form (folded n) ∙ ap (λ o. message_form (message_bytes (unwrap_or o n))) e
-  by (ValueOf-F.Bool b) e = absurd (cc e)
-  by (ValueOf-F.I32 z) e = absurd (cc e)
-  by (ValueOf-F.I64 z) e = absurd (cc e)
-  by (ValueOf-F.U32 n) e = absurd (cc e)
-  by (ValueOf-F.U64 n) e = absurd (cc e)
-  by (ValueOf-F.String t) e = absurd (cc e)
-  by (ValueOf-F.Bytes b) e = absurd (cc e)
-  by (ValueOf-F.EnumNumber z) e = absurd (cc e)
-  by (ValueOf-F.List vs) e = absurd (cc e)
-  by (ValueOf-F.Map es) e = absurd (cc e)
+  by o e = absurd (cc e)
 
 pub list_form_seen : (v : Value) (vs : List Value) → list_items v ≡ Some vs → form_of v ≡ list_form (map form_of vs)
 list_form_seen v vs e = opened v ∙ by (out-ValueOf MessageDescriptor v) e where
-  by : (o : ValueOf-F MessageDescriptor blocks.Held Value DynamicMessage Parts) → items_of o ≡ Some vs → stepped o ≡ list_form (map form_of vs)
+  by : (o : Open) → items_in o ≡ Some vs → stepped o ≡ list_form (map form_of vs)
   by (ValueOf-F.List ws) e = ap (λ o. list_form (map form_of (unwrap_or o []))) e
-  by (ValueOf-F.Bool b) e = absurd (cc e)
-  by (ValueOf-F.I32 z) e = absurd (cc e)
-  by (ValueOf-F.I64 z) e = absurd (cc e)
-  by (ValueOf-F.U32 n) e = absurd (cc e)
-  by (ValueOf-F.U64 n) e = absurd (cc e)
-  by (ValueOf-F.String t) e = absurd (cc e)
-  by (ValueOf-F.Bytes b) e = absurd (cc e)
-  by (ValueOf-F.EnumNumber z) e = absurd (cc e)
-  by (ValueOf-F.Message m) e = absurd (cc e)
-  by (ValueOf-F.Map es) e = absurd (cc e)
+  by o e = absurd (cc e)
 
 abbrev pub forms_of : List (MapKey × Value) → List (MapKey × Form)
 forms_of es = map (λ e. (e.0, form_of e.1)) es
 
 pub map_form_seen : (v : Value) (es : List (MapKey × Value)) → map_entries v ≡ Some es → form_of v ≡ map_form (forms_of es)
 map_form_seen v es e = opened v ∙ by (out-ValueOf MessageDescriptor v) e where
-  by : (o : ValueOf-F MessageDescriptor blocks.Held Value DynamicMessage Parts) → entries_in o ≡ Some es → stepped o ≡ map_form (forms_of es)
+  by : (o : Open) → entries_in o ≡ Some es → stepped o ≡ map_form (forms_of es)
   by (ValueOf-F.Map fs) e = ap (λ o. map_form (forms_of (unwrap_or o []))) e
-  by (ValueOf-F.Bool b) e = absurd (cc e)
-  by (ValueOf-F.I32 z) e = absurd (cc e)
-  by (ValueOf-F.I64 z) e = absurd (cc e)
-  by (ValueOf-F.U32 n) e = absurd (cc e)
-  by (ValueOf-F.U64 n) e = absurd (cc e)
-  by (ValueOf-F.String t) e = absurd (cc e)
-  by (ValueOf-F.Bytes b) e = absurd (cc e)
-  by (ValueOf-F.EnumNumber z) e = absurd (cc e)
-  by (ValueOf-F.Message m) e = absurd (cc e)
-  by (ValueOf-F.List vs) e = absurd (cc e)
+  by o e = absurd (cc e)
 
 held_seen : (h : blocks.Held) (pool : PoolType) (i : ℕ) → held_bytes h pool i ≡ content pool i (forms (fields_in h)) (forms (extensions_in h)) (unknown_in h)
 held_seen h pool i = ap (λ s. s pool i) (fold_out-HeldOf MessageDescriptor Placed Form (List ℕ) Placed held_step value_step message_step parts_step h) ∙ by (out-HeldOf MessageDescriptor h) where

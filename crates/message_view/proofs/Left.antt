@@ -36,7 +36,7 @@ use Rattle.message_view.specs.Types.{name_at, part_of, key_of, entry_part, value
 use Rattle.message_view.specs.Views.{held_in, held_either, content_view, contents_view, view_of}
 use Rattle.message_view.proofs.Elements.{single_left, values_left, Nests, messages_left, message_left}
 use Rattle.message_view.proofs.Entries.{Sort, plain, floating, message_type, sort_of, map_left}
-use Rattle.message_view.proofs.Fields.{owned, known, owned_whole, extension_owned, extension_whole, known_extension_is, none_owned, not_declared}
+use Rattle.message_view.proofs.Fields.{by_number, owned, owned_whole, extension_owned, extension_whole, none_owned, not_declared}
 use Rattle.message_view.proofs.Oneofs.{payloads_same, sibling_is_rival, no_rivals, no_self, no_oneof}
 use Rattle.message_view.proofs.Seen.{value_at-view}
 
@@ -88,6 +88,35 @@ module _ (pool : PoolType) (keyed_maps : HaveMapKeys pool) (defaults : HaveEntry
   field_left f new [] held leaves = none_left f ∙ sym (ap (λ o. held_in pool f (option_map content_view o)) leaves)
   field_left f new (p ∷ ps) held leaves = some_left f new p ps held leaves
 
+-- what records leave of what was held, number by number
+module _ (d : MessageDescriptor) (types : Types) (told : (n : ℕ) → types (name_at d.pool.now d.index) n ≡ field_at d.pool.now d.index n)
+    (inner : Merge) (takes : Takes) (start : ℕ → Held) (rs : List (ℕ × Payload)) where
+  abbrev declared : ℕ → Option Field
+  declared = types (name_at d.pool.now d.index)
+
+  abbrev pub Leave : ℕ → Held → Type 0
+  Leave n h = held inner (declared n) (left_of (rival declared n) (start n) rs) (standing (rival declared n) n rs) ≡ h
+
+  -- where no record is a rival's, the records of a number leave what they do
+  pub alone : (n : ℕ) (h : Held) → is_in (rival declared n) rs ≡ false → held inner (declared n) (start n) (payloads n rs) ≡ h → Leave n h
+  alone n h none e = stands_alone inner (declared n) (rival declared n) n (start n) rs none ∙ e
+
+  -- the records of a field that stand, behind what was held or behind nothing
+  pub field_stands : (f : FieldDescriptor) → Owns d f → (before after : Option Value) (h : Held)
+      → ((ps : List Payload) → Leaves takes d.pool.now (field_type f) before after ps → held inner (declared (field_type f).number) (start (field_type f).number) ps ≡ h)
+      → ((ps : List Payload) → Leaves takes d.pool.now (field_type f) None after ps → held inner (declared (field_type f).number) absent ps ≡ h)
+      → LeavesField takes d f before after rs → Leave (field_type f).number h
+  field_stands f owns before after h settled fresh (inl (none, leaves)) =
+      let n = (field_type f).number in
+      alone n h (no_rivals d declared told f owns rs none)
+      (ap (held inner (declared n) (start n)) (sym (payloads_same n rs)) ∙ settled (keeps.payloads n rs) (subst (λ p. Leaves takes p (field_type f) before after (keeps.payloads n rs)) owns.0.1 leaves))
+  field_stands f owns before after h settled fresh (inr (lead, behind, r, is, sibling, none, leaves)) =
+      let n = (field_type f).number in
+      ap (λ rs. held inner (declared n) (left_of (rival declared n) (start n) rs) (standing (rival declared n) n rs)) is
+      ∙ stands_behind inner (declared n) (rival declared n) n (start n) lead behind r (sibling_is_rival d declared told f owns r.0 sibling) (no_self d declared told n) (no_rivals d declared told f owns behind none)
+      ∙ ap (held inner (declared n) absent) (sym (payloads_same n behind))
+      ∙ fresh (keeps.payloads n behind) (subst (λ p. Leaves takes p (field_type f) None after (keeps.payloads n behind)) owns.0.1 leaves)
+
 -- what records leave in a message where nothing stood
 pub record AreLeft (takes : Takes) (d : MessageDescriptor) (c : Content) (rs : List (ℕ × Payload)) : Type 0 where
   pub unknown : KeepsUndeclared d [] c.unknown rs
@@ -99,30 +128,11 @@ module _ (d : MessageDescriptor) (keyed_maps : HaveMapKeys d.pool.now) (defaults
   abbrev type : ℕ → Option Field
   type = types (name_at d.pool.now d.index)
 
-  abbrev Leave : ℕ → Held → Type 0
-  Leave n h = held inner (type n) (left_of (rival type n) absent rs) (standing (rival type n) n rs) ≡ h
-
-  -- where no record is a rival's, the records of a number leave what they do
-  alone : (n : ℕ) (h : Held) → is_in (rival type n) rs ≡ false → held inner (type n) absent (payloads n rs) ≡ h → Leave n h
-  alone n h none e = stands_alone inner (type n) (rival type n) n absent rs none ∙ e
-
-  -- the records of a field that stand
-  field_stands : (f : FieldDescriptor) → Owns d f → (new : Option Value) (h : Held)
-      → ((ps : List Payload) → Leaves takes d.pool.now (field_type f) None new ps → held inner (type (field_type f).number) absent ps ≡ h)
-      → LeavesField takes d f None new rs → Leave (field_type f).number h
-  field_stands f owns new h settled (inl (none, leaves)) =
-      let n = (field_type f).number in
-      alone n h (no_rivals d type told f owns rs none)
-      (ap (held inner (type n) absent) (sym (payloads_same n rs)) ∙ settled (keeps.payloads n rs) (subst (λ p. Leaves takes p (field_type f) None new (keeps.payloads n rs)) owns.0.1 leaves))
-  field_stands f owns new h settled (inr (before, behind, r, is, sibling, none, leaves)) =
-      let n = (field_type f).number in
-      ap (λ rs. held inner (type n) (left_of (rival type n) absent rs) (standing (rival type n) n rs)) is
-      ∙ stands_behind inner (type n) (rival type n) n absent before behind r (sibling_is_rival d type told f owns r.0 sibling) (no_self d type told n) (no_rivals d type told f owns behind none)
-      ∙ ap (held inner (type n) absent) (sym (payloads_same n behind))
-      ∙ settled (keeps.payloads n behind) (subst (λ p. Leaves takes p (field_type f) None new (keeps.payloads n behind)) owns.0.1 leaves)
+  abbrev nothing_held : ℕ → Held
+  nothing_held n = absent
 
   abbrev Stands : ℕ → Type 0
-  Stands n = Leave n (view_of d.pool.now d.index c n)
+  Stands n = Leave d types told inner takes nothing_held rs n (view_of d.pool.now d.index c n)
 
   abbrev seen : Option FieldType → Option FieldType → ℕ → Held
   seen f x n = held_either d.pool.now f x (value_at (contents_view c.fields) n) (value_at (contents_view c.extensions) n) (payloads n c.unknown)
@@ -136,9 +146,8 @@ module _ (d : MessageDescriptor) (keyed_maps : HaveMapKeys d.pool.now) (defaults
       let new = value_at c.fields n in
       let field : type n ≡ Some (field_of d.pool.now (oneof_at d.pool.now d.index g) false g) = told n ∙ ap (λ o. either_field d.pool.now d.index o (known_extension d.pool.now d.index n)) is in
       let view : held_in d.pool.now g (option_map content_view new) ≡ view_of d.pool.now d.index c n = ap (held_in d.pool.now g) (sym (value_at-view c.fields n)) ∙ sym (ap (λ o. seen o (known_extension d.pool.now d.index n) n) is) in
-      field_stands f owns new (view_of d.pool.now d.index c n)
-      (λ ps leaves. ap (λ o. held inner o absent ps) field ∙ field_left d.pool.now keyed_maps defaults inner takes nests g new ps (owned_whole d f owns) leaves ∙ view)
-      (left.fields f owns)
+      let leave = λ (ps : List Payload) (leaves : Leaves takes d.pool.now g None new ps). ap (λ o. held inner o absent ps) field ∙ field_left d.pool.now keyed_maps defaults inner takes nests g new ps (owned_whole d f owns) leaves ∙ view in
+      field_stands d types told inner takes nothing_held rs f owns None new (view_of d.pool.now d.index c n) leave leave (left.fields f owns)
 
   -- of an extension, where no field has it
   at_extension : (x : ExtensionDescriptor) → OwnsExtension d x → known_field d.pool.now d.index (extension_type x).number ≡ None → Stands (extension_type x).number
@@ -153,7 +162,7 @@ module _ (d : MessageDescriptor) (keyed_maps : HaveMapKeys d.pool.now) (defaults
       let view : held_in d.pool.now g (option_map content_view new) ≡ view_of d.pool.now d.index c n =
       ap (held_in d.pool.now g) (sym (value_at-view c.extensions n)) ∙ sym (ap (λ o. seen o (known_extension d.pool.now d.index n) n) none ∙ ap (λ o. seen None o n) is) in
       let leaves = subst (λ p. Leaves takes p g None new (keeps.payloads n rs)) owns.0.0 (left.extensions x owns (none_owned d n none)) in
-      alone n (view_of d.pool.now d.index c n) (no_oneof d type told n (ap oneof_of field) rs)
+      alone d types told inner takes nothing_held rs n (view_of d.pool.now d.index c n) (no_oneof d type told n (ap oneof_of field) rs)
       (ap (held inner (type n) absent) (sym (payloads_same n rs)) ∙ ap (λ o. held inner o absent (keeps.payloads n rs)) field
       ∙ field_left d.pool.now keyed_maps defaults inner takes nests g new (keeps.payloads n rs) (extension_whole d x owns) leaves ∙ view)
 
@@ -163,17 +172,10 @@ module _ (d : MessageDescriptor) (keyed_maps : HaveMapKeys d.pool.now) (defaults
       let field : type n ≡ None = told n ∙ ap (λ o. either_field d.pool.now d.index o (known_extension d.pool.now d.index n)) none ∙ ap (either_field d.pool.now d.index None) also in
       let kept : payloads n c.unknown ≡ payloads n rs = sym (payloads_same n c.unknown) ∙ ap (map (λ (r : ℕ × Payload). r.1)) (left.unknown.behind n (not_declared d n none also)) ∙ payloads_same n rs in
       let view : records (payloads n c.unknown) ≡ view_of d.pool.now d.index c n = sym (ap (λ o. seen o (known_extension d.pool.now d.index n) n) none ∙ ap (λ o. seen None o n) also) in
-      alone n (view_of d.pool.now d.index c n) (no_oneof d type told n (ap oneof_of field) rs) (ap (λ o. held inner o absent (payloads n rs)) field ∙ sym (ap records kept) ∙ view)
+      alone d types told inner takes nothing_held rs n (view_of d.pool.now d.index c n) (no_oneof d type told n (ap oneof_of field) rs) (ap (λ o. held inner o absent (payloads n rs)) field ∙ sym (ap records kept) ∙ view)
 
   pub all_left : meaning_by inner types (name_at d.pool.now d.index) model.nothing rs ≡ view_of d.pool.now d.index c
-  all_left = fun_ext (λ n. by n (known_field d.pool.now d.index n) refl (known_extension d.pool.now d.index n) refl) where
-    by : (n : ℕ) (f : Option FieldType) → known_field d.pool.now d.index n ≡ f → (x : Option FieldType) → known_extension d.pool.now d.index n ≡ x → Stands n
-    by n (Some g) is x also = let h = known d n g is in subst Stands (ap (λ (t : FieldType). t.number) h.2 ∙ h.3) (at_field h.0 h.1)
-    by n None none (Some g) is =
-        let h = known_extension_is d n g is in
-        let number : (extension_type h.0).number ≡ n = ap (λ (t : FieldType). t.number) h.2 ∙ h.3 in
-        subst Stands number (at_extension h.0 h.1 (ap (known_field d.pool.now d.index) number ∙ none))
-    by n None none None also = at_neither n none also
+  all_left = fun_ext (by_number d Stands at_field at_extension at_neither)
 
 -- where nothing stood nothing is noted
 pub nothing_chosen : (d : MessageDescriptor) → AreChosen d [] []

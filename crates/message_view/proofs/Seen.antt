@@ -1,5 +1,5 @@
 -- What is seen of values and of messages, one level at a time.
-use Rattle.std.proofs.Common.{◌≡◌, ℕ, ◌==◌, Bool, true, false, cond, List, [], ◌∷◌, map, Option, Some, None, option_map, unwrap_or, string_bytes, refl, ap, ◌∙◌}
+use Rattle.std.proofs.Common.{◌≡◌, ℕ, ◌==◌, Bool, true, false, cond, List, [], ◌∷◌, map, Option, Some, None, option_map, unwrap_or, string_bytes, refl, ap, ◌∙◌, subst}
 use mathlib.Core.Path.{fun_ext}
 use Rattle.reflect_tables.specs.Types.{PoolType, FieldType}
 use Rattle.reflect_wire.specs.Records.{Payload}
@@ -20,6 +20,7 @@ use Rattle.reflect_message.specs.declared.parts.HeldOf.{out-HeldOf}
 use Rattle.reflect_message.specs.Names as blocks
 use Rattle.reflect_message.specs.declared.parts.HeldOf.TheFolds.{map-ValueOf, map-HeldOf, fold-HeldOf, fold-ValueOf, fold-MessageOf, fold-PartsOf, fold_out-ValueOf, fold_out-HeldOf, fold_out-PartsOf, fold_out-MessageOf}
 use Rattle.reflect_message.specs.declared.parts.HeldOf.TheOpen.{HeldOf-F, ValueOf-F}
+use Rattle.reflect_message.proofs.Alike.{Open, entries_in, items_in, message_of}
 use Rattle.reflect_message.specs.declared.parts.HeldOf.TheViews.{out-ValueOf}
 use Rattle.protobuf_model.specs.Values.{Single, Content, single, message, list, dictionary, Message, absent, chain_of, entries_of}
 use Rattle.message_view.specs.Singles.{single_view}
@@ -30,7 +31,7 @@ abbrev Placed : Type 0
 Placed = PoolType → ℕ → Message
 
 -- one level of a value, with what is inside it seen
-abbrev stepped : ValueOf-F MessageDescriptor blocks.Held Value DynamicMessage Parts → Content
+abbrev stepped : Open → Content
 stepped o = value_step (map-ValueOf MessageDescriptor blocks.Held Value DynamicMessage Parts Placed Content Message Placed
     (fold-HeldOf MessageDescriptor Placed Content Message Placed held_step value_step message_step parts_step)
     (fold-ValueOf MessageDescriptor Placed Content Message Placed held_step value_step message_step parts_step)
@@ -40,7 +41,7 @@ stepped o = value_step (map-ValueOf MessageDescriptor blocks.Held Value DynamicM
 opened : (v : Value) → content_view v ≡ stepped (out-ValueOf MessageDescriptor v)
 opened v = fold_out-ValueOf MessageDescriptor Placed Content Message Placed held_step value_step message_step parts_step v
 
-abbrev pub single_in : ValueOf-F MessageDescriptor blocks.Held Value DynamicMessage Parts → Option held.Single
+abbrev pub single_in : Open → Option held.Single
 single_in o = elim o [
   | ValueOf-F.Bool b ↦ Some (held.truth b)
   | ValueOf-F.I32 z ↦ Some (held.int32 z)
@@ -55,38 +56,16 @@ single_in o = elim o [
   | ValueOf-F.Map es ↦ None
 ]
 
-unwrapped : (a w : held.Single) → Some a ≡ Some w → single (single_view a) ≡ single (single_view w)
-unwrapped a w e = ap (λ o. single (single_view (unwrap_or o a))) e
+-- what is made of the single value, where there is one; of others nothing is said
+abbrev pub IsSeenAs : {X : Type 0} → (held.Single → X) → X → Option held.Single → Type 0
+IsSeenAs make x None = x ≡ x
+IsSeenAs make x (Some w) = x ≡ make w
 
 pub single_seen : (v : Value) (w : held.Single) → singles.single v ≡ Some w → content_view v ≡ single (single_view w)
-single_seen v w e = opened v ∙ by (out-ValueOf MessageDescriptor v) e where
-  by : (o : ValueOf-F MessageDescriptor blocks.Held Value DynamicMessage Parts) → single_in o ≡ Some w → stepped o ≡ single (single_view w)
-  by (ValueOf-F.Bool b) e = unwrapped (held.truth b) w e
-  by (ValueOf-F.I32 z) e = unwrapped (held.int32 z) w e
-  by (ValueOf-F.I64 z) e = unwrapped (held.int64 z) w e
-  by (ValueOf-F.U32 n) e = unwrapped (held.uint32 n) w e
-  by (ValueOf-F.U64 n) e = unwrapped (held.uint64 n) w e
-  by (ValueOf-F.String t) e = unwrapped (held.text (string_bytes t)) w e
-  by (ValueOf-F.Bytes b) e = unwrapped (held.blob b.items) w e
-  by (ValueOf-F.EnumNumber z) e = unwrapped (held.enumerated z) w e
-  by (ValueOf-F.Message m) e = absurd (cc e)
-  by (ValueOf-F.List vs) e = absurd (cc e)
-  by (ValueOf-F.Map es) e = absurd (cc e)
-
-abbrev pub message_of : ValueOf-F MessageDescriptor blocks.Held Value DynamicMessage Parts → Option DynamicMessage
-message_of o = elim o [
-  | ValueOf-F.Bool b ↦ None
-  | ValueOf-F.I32 z ↦ None
-  | ValueOf-F.I64 z ↦ None
-  | ValueOf-F.U32 n ↦ None
-  | ValueOf-F.U64 n ↦ None
-  | ValueOf-F.String t ↦ None
-  | ValueOf-F.Bytes b ↦ None
-  | ValueOf-F.EnumNumber z ↦ None
-  | ValueOf-F.Message m ↦ Some m
-  | ValueOf-F.List vs ↦ None
-  | ValueOf-F.Map es ↦ None
-]
+single_seen v w e = opened v ∙ subst (IsSeenAs (λ s. single (single_view s)) (stepped (out-ValueOf MessageDescriptor v))) e (by (out-ValueOf MessageDescriptor v)) where
+  by : (o : Open) → IsSeenAs (λ s. single (single_view s)) (stepped o) (single_in o)
+  by (ValueOf-F.Message m) = refl
+  by o = refl
 
 -- a message that is a value is seen as the message that it is
 folded : (m : DynamicMessage) → fold-MessageOf MessageDescriptor Placed Content Message Placed held_step value_step message_step parts_step m ≡ view m
@@ -94,63 +73,15 @@ folded m = fold_out-MessageOf MessageDescriptor Placed Content Message Placed he
 
 pub message_seen : (v : Value) (m : DynamicMessage) → message_in v ≡ Some m → content_view v ≡ message (view m)
 message_seen v m e = opened v ∙ by (out-ValueOf MessageDescriptor v) e where
-  by : (o : ValueOf-F MessageDescriptor blocks.Held Value DynamicMessage Parts) → message_of o ≡ Some m → stepped o ≡ message (view m)
+  by : (o : Open) → message_of o ≡ Some m → stepped o ≡ message (view m)
   by (ValueOf-F.Message n) e = ap message (folded n) ∙ ap (λ o. message (view (unwrap_or o n))) e
-  by (ValueOf-F.Bool b) e = absurd (cc e)
-  by (ValueOf-F.I32 z) e = absurd (cc e)
-  by (ValueOf-F.I64 z) e = absurd (cc e)
-  by (ValueOf-F.U32 n) e = absurd (cc e)
-  by (ValueOf-F.U64 n) e = absurd (cc e)
-  by (ValueOf-F.String t) e = absurd (cc e)
-  by (ValueOf-F.Bytes b) e = absurd (cc e)
-  by (ValueOf-F.EnumNumber z) e = absurd (cc e)
-  by (ValueOf-F.List vs) e = absurd (cc e)
-  by (ValueOf-F.Map es) e = absurd (cc e)
-
-abbrev pub items_of : ValueOf-F MessageDescriptor blocks.Held Value DynamicMessage Parts → Option (List Value)
-items_of o = elim o [
-  | ValueOf-F.Bool b ↦ None
-  | ValueOf-F.I32 z ↦ None
-  | ValueOf-F.I64 z ↦ None
-  | ValueOf-F.U32 n ↦ None
-  | ValueOf-F.U64 n ↦ None
-  | ValueOf-F.String t ↦ None
-  | ValueOf-F.Bytes b ↦ None
-  | ValueOf-F.EnumNumber z ↦ None
-  | ValueOf-F.Message m ↦ None
-  | ValueOf-F.List vs ↦ Some vs.items
-  | ValueOf-F.Map es ↦ None
-]
+  by o e = absurd (cc e)
 
 pub list_seen : (v : Value) (vs : List Value) → list_items v ≡ Some vs → content_view v ≡ list (chain_of (map content_view vs))
 list_seen v vs e = opened v ∙ by (out-ValueOf MessageDescriptor v) e where
-  by : (o : ValueOf-F MessageDescriptor blocks.Held Value DynamicMessage Parts) → items_of o ≡ Some vs → stepped o ≡ list (chain_of (map content_view vs))
+  by : (o : Open) → items_in o ≡ Some vs → stepped o ≡ list (chain_of (map content_view vs))
   by (ValueOf-F.List ws) e = ap (λ o. list (chain_of (map content_view (unwrap_or o [])))) e
-  by (ValueOf-F.Bool b) e = absurd (cc e)
-  by (ValueOf-F.I32 z) e = absurd (cc e)
-  by (ValueOf-F.I64 z) e = absurd (cc e)
-  by (ValueOf-F.U32 n) e = absurd (cc e)
-  by (ValueOf-F.U64 n) e = absurd (cc e)
-  by (ValueOf-F.String t) e = absurd (cc e)
-  by (ValueOf-F.Bytes b) e = absurd (cc e)
-  by (ValueOf-F.EnumNumber z) e = absurd (cc e)
-  by (ValueOf-F.Message m) e = absurd (cc e)
-  by (ValueOf-F.Map es) e = absurd (cc e)
-
-abbrev pub entries_in : ValueOf-F MessageDescriptor blocks.Held Value DynamicMessage Parts → Option (List (MapKey × Value))
-entries_in o = elim o [
-  | ValueOf-F.Bool b ↦ None
-  | ValueOf-F.I32 z ↦ None
-  | ValueOf-F.I64 z ↦ None
-  | ValueOf-F.U32 n ↦ None
-  | ValueOf-F.U64 n ↦ None
-  | ValueOf-F.String t ↦ None
-  | ValueOf-F.Bytes b ↦ None
-  | ValueOf-F.EnumNumber z ↦ None
-  | ValueOf-F.Message m ↦ None
-  | ValueOf-F.List vs ↦ None
-  | ValueOf-F.Map es ↦ Some es.entries
-]
+  by o e = absurd (cc e)
 
 abbrev pub pairs_view : List (MapKey × Value) → List (Single × Content)
 pairs_view es = map (λ e. (single_view (key_view e.0), content_view e.1)) es
@@ -161,18 +92,9 @@ inside (e ∷ es) = ap (λ l. (single_view (key_view e.0), content_view e.1) ∷
 
 pub map_seen : (v : Value) (es : List (MapKey × Value)) → map_entries v ≡ Some es → content_view v ≡ dictionary (entries_of (pairs_view es))
 map_seen v es e = opened v ∙ by (out-ValueOf MessageDescriptor v) e where
-  by : (o : ValueOf-F MessageDescriptor blocks.Held Value DynamicMessage Parts) → entries_in o ≡ Some es → stepped o ≡ dictionary (entries_of (pairs_view es))
+  by : (o : Open) → entries_in o ≡ Some es → stepped o ≡ dictionary (entries_of (pairs_view es))
   by (ValueOf-F.Map fs) e = ap (λ l. dictionary (entries_of l)) (inside fs.entries) ∙ ap (λ o. dictionary (entries_of (pairs_view (unwrap_or o [])))) e
-  by (ValueOf-F.Bool b) e = absurd (cc e)
-  by (ValueOf-F.I32 z) e = absurd (cc e)
-  by (ValueOf-F.I64 z) e = absurd (cc e)
-  by (ValueOf-F.U32 n) e = absurd (cc e)
-  by (ValueOf-F.U64 n) e = absurd (cc e)
-  by (ValueOf-F.String t) e = absurd (cc e)
-  by (ValueOf-F.Bytes b) e = absurd (cc e)
-  by (ValueOf-F.EnumNumber z) e = absurd (cc e)
-  by (ValueOf-F.Message m) e = absurd (cc e)
-  by (ValueOf-F.List vs) e = absurd (cc e)
+  by o e = absurd (cc e)
 
 -- what stands under a number of entries that are seen one by one
 pub value_at-view : (es : List (ℕ × Value)) (n : ℕ) → value_at (contents_view es) n ≡ option_map content_view (value_at es n)

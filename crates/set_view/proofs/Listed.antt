@@ -54,7 +54,7 @@ module _ (inner : DynamicMessage → Type 0) (pool : PoolType) (f : FieldType) (
   fitting (Some v) fits = fitting_list v (fits v refl)
 
   -- where the list and the values fit, so does the longer list
-  pub longer_fits : (old new : Option Value) (vs : List Value) → ((v : Value) → old ≡ Some v → FitsShaped inner pool f v) → AllByRecursion (FitsOne inner pool f) vs → Lengthens old new vs
+  longer_fits : (old new : Option Value) (vs : List Value) → ((v : Value) → old ≡ Some v → FitsShaped inner pool f v) → AllByRecursion (FitsOne inner pool f) vs → Lengthens old new vs
       → (v : Value) → new ≡ Some v → FitsShaped inner pool f v
   longer_fits old new vs fits all lengthens v is =
       let was = fitting old fits in

@@ -68,7 +68,7 @@ module _ (inner : DynamicMessage → Type 0) (pool : PoolType) (f : FieldType) w
     fitting (Some v) fits = subst (λ b. FitsAs inner pool f b (holds_list pool f) v) is_map (fits v refl)
 
     -- where the map and the entries fit, so does the fuller map
-    pub fuller_fits : (old new : Option Value) (vs : List Value) → ((v : Value) → old ≡ Some v → FitsShaped inner pool f v) → AllByRecursion (GivesFitting inner pool f) vs → PutsEntries old new vs
+    fuller_fits : (old new : Option Value) (vs : List Value) → ((v : Value) → old ≡ Some v → FitsShaped inner pool f v) → AllByRecursion (GivesFitting inner pool f) vs → PutsEntries old new vs
         → (v : Value) → new ≡ Some v → FitsShaped inner pool f v
     fuller_fits old new vs fits all puts v is =
         let was = fitting old fits in

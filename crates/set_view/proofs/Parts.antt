@@ -65,17 +65,9 @@ key_in o = elim o [
 key_seen : (v : Value) (k : MapKey) → key_of_value v ≡ Some k → singles.single v ≡ Some (key_view k)
 key_seen v k e = by (out-ValueOf MessageDescriptor v) e where
   by : (o : ValueOf-F MessageDescriptor blocks.Held Value DynamicMessage Parts) → key_in o ≡ Some k → single_in o ≡ Some (key_view k)
-  by (ValueOf-F.Bool b) e = ap (option_map key_view) e
-  by (ValueOf-F.I32 z) e = ap (option_map key_view) e
-  by (ValueOf-F.I64 z) e = ap (option_map key_view) e
-  by (ValueOf-F.U32 n) e = ap (option_map key_view) e
-  by (ValueOf-F.U64 n) e = ap (option_map key_view) e
-  by (ValueOf-F.String t) e = ap (option_map key_view) e
   by (ValueOf-F.Bytes b) e = absurd (cc e)
   by (ValueOf-F.EnumNumber z) e = absurd (cc e)
-  by (ValueOf-F.Message m) e = absurd (cc e)
-  by (ValueOf-F.List vs) e = absurd (cc e)
-  by (ValueOf-F.Map es) e = absurd (cc e)
+  by o e = ap (option_map key_view) e
 
 key_of_pair : (o : Option MapKey) (value : Value) (e : Entry) → Some e ≡ option_map (λ k. (k, value)) o → o ≡ Some e.0
 key_of_pair None value e is = absurd (cc is)
@@ -133,7 +125,7 @@ module _ (inner : Name → Message → Type 0) (pool : PoolType) (f : FieldType)
           (content_suits (single v) (subst (λ b. SuitsField (cond b (content (single v)) absent)) is h))
       by false is = subst (Suits (scalar_of f.kind)) (sym (same_true v (default_of pool f) (default_is_same f.presence (same v (default_of pool f)) is))) default
 
-    pub held_suits : (outer : DynamicMessage → Type 0) → is_float f.kind ≡ false → (IsScalarType f.kind → Suits (scalar_of f.kind) (default_of pool f))
+    held_suits : (outer : DynamicMessage → Type 0) → is_float f.kind ≡ false → (IsScalarType f.kind → Suits (scalar_of f.kind) (default_of pool f))
         → (v : Value) → FitsOne outer pool f v → SuitsField (held_in pool f (Some (content_view v))) → IsOfKind v
     held_suits outer whole default v fits h = by (sort_of f.kind) where
       by : Sort f.kind → IsOfKind v
@@ -207,12 +199,12 @@ module _ (levels depth : ℕ) (m : DynamicMessage) (sound : IsSound m.descriptor
   value_part : IsPartAt its.pool.now its.index 2 s.value
   value_part = (sound.parts its.index s is).1
 
-  pub key_there : numbered_field its.pool.now its.index 1 ≡ Some (type_of s.key)
+  key_there : numbered_field its.pool.now its.index 1 ≡ Some (type_of s.key)
   key_there =
       let fields = sound.entries (types.message its.index) is_entry_type in
       fields.2 ∙ ap Some (sym (part_found its.pool.now sound.apart its.index 1 s.key key_part fields.0 fields.2))
 
-  pub value_there : numbered_field its.pool.now its.index 2 ≡ Some (type_of s.value)
+  value_there : numbered_field its.pool.now its.index 2 ≡ Some (type_of s.value)
   value_there =
       let fields = sound.entries (types.message its.index) is_entry_type in
       fields.3 ∙ ap Some (sym (part_found its.pool.now sound.apart its.index 2 s.value value_part fields.1 fields.3))
@@ -223,7 +215,7 @@ module _ (levels depth : ℕ) (m : DynamicMessage) (sound : IsSound m.descriptor
   abbrev GivesThis : Entry → Type 0
   GivesThis e = GivesPair its.pool.now (type_of s.key) (type_of s.value) (fields_of m) (Some e)
 
-  pub pair_keyed : (e : Entry) → GivesThis e → Suits (scalar_of (type_of s.key).kind) (single_view (key_view e.0))
+  pair_keyed : (e : Entry) → GivesThis e → Suits (scalar_of (type_of s.key).kind) (single_view (key_view e.0))
   pair_keyed e (key, value, of_key, of_value, given) =
       let f = type_of s.key in
       let below = IsTyped depth (types_of its.pool.now) in
@@ -232,7 +224,7 @@ module _ (levels depth : ℕ) (m : DynamicMessage) (sound : IsSound m.descriptor
       (subst (λ n. IsSetOrDefault its.pool.now f (value_at (fields_of m) n) key) key_part.number of_key) in
       subst (λ k. IsOf below k (single (single_view (key_view e.0)))) (kind_scalar its.pool.now f.group f.kind key_type) (subst (IsOf below (kind_in its.pool.now f.group f.kind)) seen typed)
 
-  pub pair_valued : is_float (type_of s.value).kind ≡ false → (e : Entry) → GivesThis e → IsOfPart s.value e.1
+  pair_valued : is_float (type_of s.value).kind ≡ false → (e : Entry) → GivesThis e → IsOfPart s.value e.1
   pair_valued whole e (key, value, of_key, of_value, given) =
       subst (IsOfPart s.value) (value_of_pair (key_of_value key) value e given)
       (part_typed 2 s.value value_part value_there whole (value_at (fields_of m) 2) refl value

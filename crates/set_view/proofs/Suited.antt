@@ -72,7 +72,7 @@ module _ (inner : Name → Message → Type 0) (levels : ℕ) (type : ℕ → Op
     }
 
     -- one number is unset
-    pub unset_typed : (n : ℕ) → IsUnset n old new → IsTypedBy inner levels type new
+    unset_typed : (n : ℕ) → IsUnset n old new → IsTypedBy inner levels type new
     unset_typed n unset = left_typed each where
       each : (q : ℕ) → StaysOrGoes q
       each q = by (q == n) refl where
@@ -94,7 +94,7 @@ module _ (inner : Name → Message → Type 0) (levels : ℕ) (type : ℕ → Op
         by true is = inl (grind (arith, is))
         by false is = inr (λ same. grind (arith, is, same))
 
-      pub put_typed : IsTypedBy inner levels type new
+      put_typed : IsTypedBy inner levels type new
       put_typed = record {
         numbers = λ q. number q (where_is q);
         contents = λ q. content q (where_is q);
