@@ -71,8 +71,8 @@ have_read_defaults pool sound present reads t n f e declared lacks = by (known_f
       let same : f ≡ field_of pool (oneof_at pool i g) false g = ap (λ o. unwrap_or o f) (sym e ∙ ap (λ o. either_field pool i o (known_extension pool i n)) is) in
       subst Read (sym same)
       (λ l.
-          let unset = unpresent pool sound present reads i n g is l in
-          (ap (option_and_then (λ k. first_number (members_of pool i k))) (reads i n g is unset).alone, default_read pool sound present reads i n g is unset))
+      let unset = unpresent pool sound present reads i n g is l in
+      (ap (option_and_then (λ k. first_number (members_of pool i k))) (reads i n g is unset).alone, default_read pool sound present reads i n g is unset))
       lacks
   by None is (Some g) also =
       let same : f ≡ field_of pool None true g = ap (λ o. unwrap_or o f) (sym e ∙ ap (λ o. either_field pool i o (known_extension pool i n)) is ∙ ap (either_field pool i None) also) in
