@@ -48,27 +48,27 @@ expansion_of form w inner t m fs e = by (form.expands && w.is_any t) refl where
       let both = and_parts form.expands (w.is_any t) is in
       option_and_then_some as_url (last_slash (text_in (m 1))) fs (sym (ap (λ b. cond b found None) is) ∙ e)
       (λ url slash its.
-          let given = mapped_some (expanded_as url) (option_and_then (held_in w inner url.1) (bytes_in (m 2))) fs its in
-          option_and_then_some (held_in w inner url.1) (bytes_in (m 2)) given.0 given.1
-          (λ bytes there of_bytes.
-              option_and_then_some (λ u. option_and_then (inner u) (w.decoded u bytes)) (w.message url.1) given.0 of_bytes
-              (λ u known of_type.
-                  option_and_then_some (inner u) (w.decoded u bytes) given.0 of_type
-                  (λ held decoded inside. record {
-                    expands = both.0;
-                    any = both.1;
-                    url = url;
-                    bytes = bytes;
-                    type = u;
-                    held = held;
-                    given = given.0;
-                    slash = slash;
-                    known = known;
-                    there = there;
-                    decoded = decoded;
-                    inside = inside;
-                    same = given.2;
-                  }))))
+      let given = mapped_some (expanded_as url) (option_and_then (held_in w inner url.1) (bytes_in (m 2))) fs its in
+      option_and_then_some (held_in w inner url.1) (bytes_in (m 2)) given.0 given.1
+      (λ bytes there of_bytes.
+      option_and_then_some (λ u. option_and_then (inner u) (w.decoded u bytes)) (w.message url.1) given.0 of_bytes
+      (λ u known of_type.
+      option_and_then_some (inner u) (w.decoded u bytes) given.0 of_type
+      (λ held decoded inside. record {
+        expands = both.0;
+        any = both.1;
+        url = url;
+        bytes = bytes;
+        type = u;
+        held = held;
+        given = given.0;
+        slash = slash;
+        known = known;
+        there = there;
+        decoded = decoded;
+        inside = inside;
+        same = given.2;
+      }))))
 
 -- none is, where no fields can be
 pub no_expansion : (form : Form) (w : Schema) (inner : Inner) (t : Name) (m : Message) → ((fs : Fields) → IsExpansion form w inner t m fs → ⊥) → in_any form w inner t m ≡ None
@@ -80,7 +80,7 @@ no_expansion form w inner t m none = by (in_any form w inner t m) refl where
 -- a property of fields that are printed of a message, where it holds of its own fields if it does of the messages in it, and of an expansion if it does of what is held
 module _ (form : Form) (w : Schema) (Holds : Name → Message → Fields → Type 0)
     (fields : (inner : Inner) (typed : Name → Message → Type 0) → ((u : Name) (m : Message) → typed u m → IsPlain w.types u m → Holds u m (printed_by form w inner u m))
-        → (levels : ℕ) (t : Name) (m : Message) → IsTypedBy typed levels (w.types t) m → IsPlain w.types t m → Holds t m (joined (between form.pretty) (printed_fields form w inner t m)))
+    → (levels : ℕ) (t : Name) (m : Message) → IsTypedBy typed levels (w.types t) m → IsPlain w.types t m → Holds t m (joined (between form.pretty) (printed_fields form w inner t m)))
     (expansion : (inner : Inner) (t : Name) (m : Message) (fs : Fields) (e : IsExpansion form w inner t m fs) → HoldsOneForm w t m e.url e.type e.held → Holds e.type e.held e.given → Holds t m fs) where
   module _ (inner : Inner) where
     -- as its fields, or expanded
@@ -110,9 +110,9 @@ module _ (form : Form) (w : Schema) (Holds : Name → Message → Fields → Typ
   within (suc more) t m h b =
       by_levels (λ u m. Some (printed_within more form w u m)) (IsOneForm (HasOneForm more w) w)
       (λ t m one fs e.
-          let its = one e.any e.url e.bytes e.type e.held e.slash e.known e.there e.decoded in
-          expansion (λ u m. Some (printed_within more form w u m)) t m fs e its.0
-          (subst (Holds e.type e.held) (ap (λ o. unwrap_or o e.given) e.inside) (within more e.type e.held its.2 its.1)))
+      let its = one e.any e.url e.bytes e.type e.held e.slash e.known e.there e.decoded in
+      expansion (λ u m. Some (printed_within more form w u m)) t m fs e its.0
+      (subst (Holds e.type e.held) (ap (λ o. unwrap_or o e.given) e.inside) (within more e.type e.held its.2 its.1)))
       100 t m h b
 
   -- of what is printed
