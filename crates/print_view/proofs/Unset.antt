@@ -1,18 +1,18 @@
 -- What stands for fields of a pool that are not set is read so, in the words of the model.
-use Rattle.std.proofs.Common.{◌≡◌, inl, ℕ, not, Bool, true, false, true≢false, cond, Option, None, Some, unwrap_or, refl, sym, ap, ◌∙◌, subst}
+use Rattle.std.proofs.Common.{◌≡◌, inl, ℕ, Bool, true, false, true≢false, cond, Option, None, Some, unwrap_or, refl, sym, ap, ◌∙◌, subst}
 use Rattle.std.proofs.lemmas.Bool.{not-true, or_parts}
 use Rattle.std.specs.Option.{option_and_then}
 use Rattle.reflect_tables.specs.Types.{PoolType, FieldType}
 use Rattle.reflect_entries.specs.Members.{first_number}
 use Rattle.reflect_pool.specs.Parts.{members_of}
 use Rattle.reflect_pool.specs.Shapes.{is_repeated, holds_map}
-use Rattle.reflect_message.specs.Known.{is_float, holds_floats, known_field, known_extension}
+use Rattle.reflect_message.specs.Known.{is_float, known_field, known_extension}
 use Rattle.protobuf_model.specs.Types.{one, many, keyed, Field}
 use Rattle.text_model.specs.Printed.{lacks_presence}
 use Rattle.text_model.specs.Unset.{HasReadDefault, IsOfKind}
 use Rattle.text_model.specs.Unset as model
 use Rattle.message_view.specs.Sound.{IsSound}
-use Rattle.message_view.specs.Types.{default_of, either_field, entry_part, field_at, field_of, key_of, kind_in, label_of, oneof_at, part_of, place_in, types_of, values_of}
+use Rattle.message_view.specs.Types.{default_of, either_field, entry_part, field_of, key_of, kind_in, label_of, oneof_at, part_of, place_in, types_of, values_of}
 use Rattle.message_view.proofs.Elements.{kind_scalar}
 use Rattle.message_view.proofs.Entries.{Sort, plain, floating, message_type, sort_of}
 use Rattle.message_view.proofs.Fields.{held_is}
@@ -71,8 +71,8 @@ have_read_defaults pool sound present reads t n f e declared lacks = by (known_f
       let same : f ≡ field_of pool (oneof_at pool i g) false g = ap (λ o. unwrap_or o f) (sym e ∙ ap (λ o. either_field pool i o (known_extension pool i n)) is) in
       subst Read (sym same)
       (λ l.
-          let unset = unpresent pool sound present reads i n g is l in
-          (ap (option_and_then (λ k. first_number (members_of pool i k))) (reads i n g is unset).alone, default_read pool sound present reads i n g is unset))
+      let unset = unpresent pool sound present reads i n g is l in
+      (ap (option_and_then (λ k. first_number (members_of pool i k))) (reads i n g is unset).alone, default_read pool sound present reads i n g is unset))
       lacks
   by None is (Some g) also =
       let same : f ≡ field_of pool None true g = ap (λ o. unwrap_or o f) (sym e ∙ ap (λ o. either_field pool i o (known_extension pool i n)) is ∙ ap (either_field pool i None) also) in
