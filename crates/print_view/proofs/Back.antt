@@ -1,5 +1,5 @@
 -- What is printed of a decoded message is read back as it.
-use Rattle.std.proofs.Common.{◌≡◌, ◌≤◌, ℕ, true, false, true≢false, List, Option, sym, ap, ◌∙◌, subst}
+use Rattle.std.proofs.Common.{◌≡◌, ◌≤◌, ℕ, true, false, List, Option, sym, ap, ◌∙◌, subst}
 use Rattle.std.proofs.lemmas.Bool.{not-true}
 use Rattle.protox_lex.specs.Class.{Text}
 use Rattle.protobuf_model.specs.Bytes.{bytes_of}
@@ -14,6 +14,7 @@ use Rattle.reflect_format.specs.Filled.{Fills, Makes}
 use Rattle.reflect_format.specs.Unfit.{CannotMake, Unfit}
 use Rattle.reflect_print.specs.MessageTexts.{IsMessageText}
 use Rattle.text_lines.specs.declared.options.FormatOptions.{FormatOptions}
+use Rattle.text_model.specs.Expansions.{HasOneForm}
 use Rattle.text_model.specs.Forms.{Form}
 use Rattle.text_model.specs.Plain.{IsPlain}
 use Rattle.text_model.specs.Printed.{printed}
@@ -33,13 +34,14 @@ use Rattle.text_view.specs.SourceNames.{HasSourceNames}
 use Rattle.text_view.proofs.HaveNames.{have_identifiers, have_names}
 use Rattle.text_view.proofs.Made.{made_given, none_given}
 use Rattle.text_model.specs.Unset as model
-use Rattle.print_view.specs.Forms.{form_of, HaveMessagePresence, HaveReadDefaults, TellsFields}
+use Rattle.print_view.specs.Expansions.{DecodesIn, HasUsualAny}
+use Rattle.print_view.specs.Forms.{form_of, HaveMessagePresence, HaveReadDefaults}
 use Rattle.print_view.proofs.Printed.{fields_printed}
 use Rattle.print_view.proofs.Unset.{have_read_defaults}
 
-module _ (options : FormatOptions) (tells : TellsFields options) (decoded : Name → Text → Option Message) (d : MessageDescriptor) (sound : IsSound d.pool.now)
+module _ (options : FormatOptions) (declared : options.skip_unknown_fields ≡ true) (decoded : Name → Text → Option Message) (d : MessageDescriptor) (sound : IsSound d.pool.now)
     (named : HasSourceNames d.pool.now) (told : options.skip_default_fields ≡ false → HaveMessagePresence d.pool.now × HaveReadDefaults d.pool.now)
-    (bytes : List ℕ) (are : AreBytes bytes) (m : DynamicMessage) (type : m.descriptor ≡ d) (spelled : IsSpelled d bytes m) where
+    (expandable : options.expand_any ≡ true → DecodesIn d.pool.now decoded × HasUsualAny d.pool.now) (bytes : List ℕ) (are : AreBytes bytes) (m : DynamicMessage) (type : m.descriptor ≡ d) (spelled : IsSpelled d bytes m) where
   abbrev w : Schema
   w = schema_of d.pool.now decoded
 
@@ -54,11 +56,11 @@ module _ (options : FormatOptions) (tells : TellsFields options) (decoded : Name
   abbrev t : Name
   t = name_at d.pool.now d.index
 
-  module _ (plain : IsPlain (types_of d.pool.now) t (view m)) (shallow : open_braces (printed form w t (view m)) ≤ 100) (z : Text) (text : IsMessageText options m z) where
+  module _ (plain : IsPlain (types_of d.pool.now) t (view m)) (forms : options.expand_any ≡ true → HasOneForm 100 w t (view m)) (shallow : open_braces (printed form w t (view m)) ≤ 100) (z : Text) (text : IsMessageText options m z) where
     -- the text gives what is seen of the message
     gives : Gives w t z (view m)
-    gives = subst (λ z. Gives w t z (view m)) (sym (fields_printed options tells d sound (λ e. (told e).0) bytes m type spelled decoded z text))
-        (printed_text_back form w (have_names d.pool.now sound named decoded) (have_identifiers d.pool.now sound named decoded) reads t (view m) (decoded_suits d sound bytes are m type spelled) plain (λ e. absurd (true≢false (sym e ∙ tells.unexpanded))) shallow)
+    gives = subst (λ z. Gives w t z (view m)) (sym (fields_printed options declared decoded d sound (λ e. (told e).0) expandable bytes m type spelled z text))
+        (printed_text_back form w (have_names d.pool.now sound named decoded) (have_identifiers d.pool.now sound named decoded) reads t (view m) (decoded_suits d sound bytes are m type spelled) plain forms shallow)
 
     -- so what it makes is written as the message is
     pub same_written : (fs : Fields) → IsText z fs → (n : DynamicMessage) → Makes d (Fills fs) n → message_bytes n ≡ message_bytes m

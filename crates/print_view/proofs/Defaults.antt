@@ -1,7 +1,6 @@
 -- What is printed of a field that is not set, where defaults are printed too.
-use Rattle.std.proofs.Common.{◌≡◌, ℕ, ℤ, pos, negsuc, ◌&&◌, ◌||◌, Bool, true, false, true≢false, cond, not, List, [], ◌∷◌, Option, refl, sym, ap, ◌∙◌, arith}
+use Rattle.std.proofs.Common.{◌≡◌, ℕ, ◌&&◌, ◌||◌, Bool, true, false, true≢false, cond, not, List, [], ◌∷◌, Option, refl, sym, ap, ◌∙◌}
 use Rattle.std.proofs.Common as common
-use Rattle.std.proofs.lemmas.Slice.Eq.{bytes_eq-Decides}
 use Rattle.protox_lex.specs.Class.{Text}
 use Rattle.reflect_tables.specs.Types.{PoolType, FieldType, KindType}
 use Rattle.reflect_tables.specs.Types as types
@@ -12,9 +11,10 @@ use Rattle.reflect_message.specs.KindTypes.{IsScalarType, IsMessageType}
 use Rattle.reflect_message.specs.Known.{is_float}
 use Rattle.reflect_message.specs.Names.{Value}
 use Rattle.protobuf_model.specs.Types.{Name, Label, one, many, keyed}
-use Rattle.protobuf_model.specs.Scalars.{same, same_bool, same_int}
+use Rattle.protobuf_model.specs.Scalars.{same}
+use Rattle.protobuf_model.proofs.KeyOrder.{same_true}
 use Rattle.protobuf_model.specs.Values as model
-use Rattle.protobuf_model.specs.Values.{Single, truth, int32, int64, uint32, uint64, text, blob, enumerated, Message, chain_of, entries_of}
+use Rattle.protobuf_model.specs.Values.{Single, Message, chain_of, entries_of}
 use Rattle.text_model.specs.Printed.{Inner, default_given, lacks_presence, printed_content, printed_single}
 use Rattle.text_model.specs.Tree as tree
 use Rattle.text_model.specs.Tree.{Given}
@@ -32,44 +32,19 @@ use Rattle.text_view.specs.Schemas.{schema_of}
 use Rattle.print_view.specs.Forms.{form_of}
 use Rattle.print_view.proofs.Values.{own_options, given}
 
--- ---- values that are the same are equal
-
-equal_truth : (a b : Bool) → same_bool a b ≡ true → a ≡ b
-equal_truth true true e = refl
-equal_truth true false e = absurd (cc e)
-equal_truth false true e = absurd (cc e)
-equal_truth false false e = refl
-
-equal_number : (y z : ℤ) → same_int y z ≡ true → y ≡ z
-equal_number (pos m) (pos n) e = let k : m ≡ n = grind (arith, e) in ap pos k
-equal_number (negsuc m) (negsuc n) e = let k : m ≡ n = grind (arith, e) in ap negsuc k
-equal_number (pos m) (negsuc n) e = absurd (cc e)
-equal_number (negsuc m) (pos n) e = absurd (cc e)
-
-equal : (v w : Single) → same v w ≡ true → v ≡ w
-equal (truth a) (truth b) e = ap truth (equal_truth a b e)
-equal (int32 a) (int32 b) e = ap int32 (equal_number a b e)
-equal (int64 a) (int64 b) e = ap int64 (equal_number a b e)
-equal (uint32 a) (uint32 b) e = let k : a ≡ b = grind (arith, e) in ap uint32 k
-equal (uint64 a) (uint64 b) e = let k : a ≡ b = grind (arith, e) in ap uint64 k
-equal (text a) (text b) e = ap text ((bytes_eq-Decides a b).0 e)
-equal (blob a) (blob b) e = ap blob ((bytes_eq-Decides a b).0 e)
-equal (enumerated a) (enumerated b) e = ap enumerated (equal_number a b e)
-equal v w e = absurd (cc e)
-
 no_message_type : (t : KindType) → IsScalarType t → IsMessageType t → ⊥
 no_message_type (types.message i) s m = s
 no_message_type t s m = m
 
 -- nothing is set of what has no presence and is its default
-is_same : (a b : Bool) → a || not b ≡ false → b ≡ true
+pub is_same : (a b : Bool) → a || not b ≡ false → b ≡ true
 is_same true b e = absurd (cc e)
 is_same false true e = refl
 is_same false false e = absurd (cc e)
 
-module _ (p skip as_declared : Bool) (pool : PoolType) (fields_of : HaveEntryFields pool) (values : HaveValues pool) (decoded : Name → Text → Option Message) (inner : Inner) (payloads : ℕ) where
+module _ (p skip as_declared expand : Bool) (pool : PoolType) (fields_of : HaveEntryFields pool) (values : HaveValues pool) (decoded : Name → Text → Option Message) (inner : Inner) (payloads : ℕ) where
   abbrev give : FieldType → Value → Given
-  give f v = given p skip as_declared pool fields_of values decoded inner payloads (values_of pool f) v
+  give f v = given p skip as_declared expand pool fields_of values decoded inner payloads (values_of pool f) v
 
   -- what the model prints of the field's default
   abbrev pub standing : FieldType → Given
@@ -108,15 +83,15 @@ module _ (p skip as_declared : Bool) (pool : PoolType) (fields_of : HaveEntryFie
   -- what is given to a field of one value
   one_given : (f : FieldType) (v : Value) (s : Single) → holds_map pool f ≡ false → content_view v ≡ model.single s → give f v ≡ tree.one_scalar (printed_single (name_in pool f.kind) s)
   one_given f v s is seen =
-      ap (λ b. given p skip as_declared pool fields_of values decoded inner payloads (cond b (entry_part pool f 2) f) v) is
-      ∙ ap (λ c. printed_content (form_of (own_options p skip as_declared)) (schema_of pool decoded) inner (name_in pool f.kind) (kind_in pool f.group f.kind) c) seen
+      ap (λ b. given p skip as_declared expand pool fields_of values decoded inner payloads (cond b (entry_part pool f 2) f) v) is
+      ∙ ap (λ c. printed_content (form_of (own_options p skip as_declared expand)) (schema_of pool decoded) inner (name_in pool f.kind) (kind_in pool f.group f.kind) c) seen
 
   -- and to one of no values
   none_given : (f : FieldType) (v : Value) → content_view v ≡ model.list model.no_contents → give f v ≡ tree.listed tree.no_values
-  none_given f v seen = ap (λ c. printed_content (form_of (own_options p skip as_declared)) (schema_of pool decoded) inner (name_in pool (values_of pool f).kind) (kind_in pool (values_of pool f).group (values_of pool f).kind) c) seen
+  none_given f v seen = ap (λ c. printed_content (form_of (own_options p skip as_declared expand)) (schema_of pool decoded) inner (name_in pool (values_of pool f).kind) (kind_in pool (values_of pool f).group (values_of pool f).kind) c) seen
 
   no_entries_given : (f : FieldType) (v : Value) → content_view v ≡ model.dictionary model.no_entries → give f v ≡ tree.listed tree.no_values
-  no_entries_given f v seen = ap (λ c. printed_content (form_of (own_options p skip as_declared)) (schema_of pool decoded) inner (name_in pool (values_of pool f).kind) (kind_in pool (values_of pool f).group (values_of pool f).kind) c) seen
+  no_entries_given f v seen = ap (λ c. printed_content (form_of (own_options p skip as_declared expand)) (schema_of pool decoded) inner (name_in pool (values_of pool f).kind) (kind_in pool (values_of pool f).group (values_of pool f).kind) c) seen
 
   abbrev pub Stands : ℕ → FieldType → Value → Type 0
   Stands levels f v = (give f v ≡ standing f) × FitsAs (Shaped levels) pool f (holds_map pool f) (holds_list pool f) v
@@ -163,7 +138,7 @@ module _ (p skip as_declared : Bool) (pool : PoolType) (fields_of : HaveEntryFie
       within (plain type) =
           let w = fits.plain type in
           let seen = single_seen v w.0 w.1 in
-          let default : single_view w.0 ≡ default_of pool f = equal (single_view w.0) (default_of pool f)
+          let default : single_view w.0 ≡ default_of pool f = same_true (single_view w.0) (default_of pool f)
           (is_same f.presence (same (single_view w.0) (default_of pool f)) (sym (ap (is_set pool f) seen) ∙ unset)) in
           one_given f v (single_view w.0) map seen
           ∙ ap (λ s. tree.one_scalar (printed_single (name_in pool f.kind) s)) default ∙ sym (one_stands f map list)

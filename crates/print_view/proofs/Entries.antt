@@ -119,7 +119,7 @@ passes test (y ∷ ys) x e = by (test y) refl (passes test ys x) where
   by true is later = let same : y ≡ x = cc (sym (ap (λ b. cond b (Some y) (find test ys)) is) ∙ e) in ap test (sym same) ∙ is
   by false is later = later (sym (ap (λ b. cond b (Some y) (find test ys)) is) ∙ e)
 
-module _ (p skip as_declared : Bool) (m : DynamicMessage) (present : skip ≡ false → HaveMessagePresence m.descriptor.pool.now) (apart : AreApart m.descriptor.pool.now) (ranged : HaveFieldNumbers m.descriptor.pool.now) (fields_have : HaveEntryFields m.descriptor.pool.now) (values : HaveValues m.descriptor.pool.now) (lists : HaveLists m.descriptor.pool.now) (names : HaveNames m.descriptor.pool.now)
+module _ (p skip as_declared expand : Bool) (m : DynamicMessage) (present : skip ≡ false → HaveMessagePresence m.descriptor.pool.now) (apart : AreApart m.descriptor.pool.now) (ranged : HaveFieldNumbers m.descriptor.pool.now) (fields_have : HaveEntryFields m.descriptor.pool.now) (values : HaveValues m.descriptor.pool.now) (lists : HaveLists m.descriptor.pool.now) (names : HaveNames m.descriptor.pool.now)
     (decoded : Name → Text → Option Message) (inner : Inner) (rounds levels : ℕ) (shaped : IsShaped (Shaped levels) m.descriptor (content_of m)) where
   abbrev pool : PoolType
   pool = m.descriptor.pool.now
@@ -128,7 +128,7 @@ module _ (p skip as_declared : Bool) (m : DynamicMessage) (present : skip ≡ fa
   i = m.descriptor.index
 
   abbrev options : FormatOptions
-  options = own_options p skip as_declared
+  options = own_options p skip as_declared expand
 
   abbrev own : Form
   own = form_of options
@@ -137,13 +137,13 @@ module _ (p skip as_declared : Bool) (m : DynamicMessage) (present : skip ≡ fa
   schema = schema_of pool decoded
 
   abbrev give : FieldType → Value → Given
-  give f v = given p skip as_declared pool fields_have values decoded inner rounds (values_of pool f) v
+  give f v = given p skip as_declared expand pool fields_have values decoded inner rounds (values_of pool f) v
 
   abbrev pair : Entry → Pair
-  pair e = pair_of p skip as_declared pool fields_have values decoded inner rounds e
+  pair e = pair_of p skip as_declared expand pool fields_have values decoded inner rounds e
 
   abbrev fits : ℕ → Entry → Type 0
-  fits n e = EntryFits p skip as_declared pool fields_have values decoded inner rounds n e
+  fits n e = EntryFits p skip as_declared expand pool fields_have values decoded inner rounds n e
 
   -- ---- what stands there suits
 
@@ -346,7 +346,7 @@ module _ (p skip as_declared : Bool) (m : DynamicMessage) (present : skip ≡ fa
 
   -- what is printed of a field that is not set
   abbrev stand : FieldType → Given
-  stand f = standing p skip as_declared pool fields_have values decoded inner rounds f
+  stand f = standing p skip as_declared expand pool fields_have values decoded inner rounds f
 
   abbrev filled : FieldType → Pair
   filled f = (tree.plain (label_of pool f), stand f)
@@ -534,7 +534,7 @@ module _ (p skip as_declared : Bool) (m : DynamicMessage) (present : skip ≡ fa
           → Behind → Put (not skip && not f.presence) es → Ends l
       unset there whole l is gives rest put = by (not skip && not f.presence) refl put where
         filled_so : l ≡ cond (not skip && not f.presence) (filled f ∷ []) []
-        filled_so = is ∙ ap (λ b. cond (not skip && b) (filled f ∷ []) []) (lacks_same p skip as_declared pool fields_have values decoded inner rounds f (lists.unset i f.number f (inl there)))
+        filled_so = is ∙ ap (λ b. cond (not skip && b) (filled f ∷ []) []) (lacks_same p skip as_declared expand pool fields_have values decoded inner rounds f (lists.unset i f.number f (inl there)))
 
         off : (b : Bool) → not b ≡ true → b ≡ false
         off true e = absurd (cc e)
@@ -554,7 +554,7 @@ module _ (p skip as_declared : Bool) (m : DynamicMessage) (present : skip ≡ fa
           → Put ((not skip && not f.presence) || is_held pool f v) es → Ends (pairs_at (Some f) v)
       within there whole None at rest put =
           unset there whole (fill f) refl
-          (λ absent shows w held. default_stands p skip as_declared pool fields_have values decoded inner rounds levels f w (first_off (is_float f.kind) (holds_map pool f && has_floats pool f.kind) whole)
+          (λ absent shows w held. default_stands p skip as_declared expand pool fields_have values decoded inner rounds levels f w (first_off (is_float f.kind) (holds_map pool f && has_floats pool f.kind) whole)
           (λ type single. true≢false (sym (present shows i f.number f there type single) ∙ absent))
           (subst (λ o. IsHeldOrDefault pool f o w) at held))
           rest (subst (λ b. Put b es) (or_false (not skip && not f.presence)) put)
@@ -575,7 +575,7 @@ module _ (p skip as_declared : Bool) (m : DynamicMessage) (present : skip ≡ fa
             by false set put =
                 unset there whole (pairs_at (Some f) (Some v)) (ap (λ b. cond b ((tree.plain (label_of pool f), give f v) ∷ []) (fill f)) set)
                 (λ absent shows w held. (
-                  ap (give f) (held_one w held) ∙ unset_stands p skip as_declared pool fields_have values decoded inner rounds levels f v (first_off (is_float f.kind) (holds_map pool f && has_floats pool f.kind) whole) set fit,
+                  ap (give f) (held_one w held) ∙ unset_stands p skip as_declared expand pool fields_have values decoded inner rounds levels f v (first_off (is_float f.kind) (holds_map pool f && has_floats pool f.kind) whole) set fit,
                   subst (FitsAs (Shaped levels) pool f (holds_map pool f) (holds_list pool f)) (sym (held_one w held)) fit,
                 ))
                 rest (subst (λ b. Put b es) (or_false (not skip && not f.presence)) put)
@@ -620,7 +620,7 @@ module _ (p skip as_declared : Bool) (m : DynamicMessage) (present : skip ≡ fa
         by None (Some y) = refl
         by (Some f) x = sym (append-nil (printed_at n))
 
-  arranged : (by_place skips : Bool) → skip ≡ skips → (ds : List Entry) → cond (skips && not by_place) (ds ≡ set_entries m) (AreChosen (own_options p skip by_place) m ds) → Arranged by_place ds
+  arranged : (by_place skips : Bool) → skip ≡ skips → (ds : List Entry) → cond (skips && not by_place) (ds ≡ set_entries m) (AreChosen (own_options p skip by_place expand) m ds) → Arranged by_place ds
   arranged false true is ds are =
       subst (Arranged false) (sym are) (
         filtered declared printed_at field_numbers ∙ same_numbers (λ n. cond (declared n) (printed_at n) []) (under first (fields_of m)) (λ n le. first_at n ∙ set_at is n (value_at (fields_of m) n))
@@ -644,7 +644,7 @@ module _ (p skip as_declared : Bool) (m : DynamicMessage) (present : skip ≡ fa
       subst (Arranged true) (sym same) (done.0 ∙ ap (map pair) (passing_all found), done.1)
 
   pub all_printed : (ds : List Entry) → AreDeclared options m ds → AllByRecursion (fits levels) ds × AllByRecursion (fits levels) (extension_entries m)
-      × (pairs_in p skip as_declared pool fields_have values decoded inner rounds m ≡ map pair ds ++ map pair (extension_entries m))
+      × (pairs_in p skip as_declared expand pool fields_have values decoded inner rounds m ≡ map pair ds ++ map pair (extension_entries m))
   all_printed ds are =
       let all = arranged as_declared skip refl ds are in (
         all.1,

@@ -6,6 +6,9 @@ mod Pieces
 mod Singles
 mod Values
 mod Entries
+mod AnyFields
+mod Anys
+mod Rounds
 mod Unset
 pub mod Printed
 mod Back

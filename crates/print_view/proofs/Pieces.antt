@@ -10,7 +10,7 @@ use Rattle.text_model.specs.Printed.{joined, parts}
 use Rattle.text_model.specs.Rendered.{run, token_text, line, lines, pretty_value, pretty_more, pretty_values, pretty_given}
 use Rattle.text_model.specs.Rendered as rendered
 use Rattle.text_model.specs.Tokens.{full_name_tokens, name_tokens, scalar_tokens, given_tokens, value_tokens, values_tokens, more_tokens, fields_tokens}
-use Rattle.text_model.specs.Tree.{FullName, FieldName, plain, extension, ScalarValue, Value, scalar, Given, one_scalar, one_message, listed, Values, no_values, more_values, Fields, braced, curly, no_separator, comma}
+use Rattle.text_model.specs.Tree.{FullName, FieldName, plain, extension, expansion, ScalarValue, Value, scalar, Given, one_scalar, one_message, listed, Values, no_values, more_values, Fields, braced, curly, no_separator, comma}
 
 pub run_append : (a b : List Token) → run (a ++ b) ≡ run a ++ run b
 run_append a b = flat_map-append token_text a b
@@ -36,6 +36,15 @@ name_said w = word_said w
 
 pub bracket_said : (w : Text) → run (name_tokens (extension (parts w))) ≡ bracketed w
 bracket_said w = ap (λ l. 91 ∷ l) (run_append (full_name_tokens (parts w)) (sign 93 ∷ []) ∙ ap (λ l. l ++ 93 ∷ []) (full_said w))
+
+-- a URL, by what stands before a slash and behind it
+pub url_said : (d n : Text) → run (name_tokens (expansion (parts d) (parts n))) ≡ bracketed (d ++ 47 ∷ n)
+url_said d n =
+    ap (λ l. 91 ∷ l)
+    (run_append (full_name_tokens (parts d)) (sign 47 ∷ (full_name_tokens (parts n) ++ sign 93 ∷ []))
+    ∙ ap (λ l. l ++ 47 ∷ run (full_name_tokens (parts n) ++ sign 93 ∷ [])) (full_said d)
+    ∙ ap (λ l. d ++ 47 ∷ l) (run_append (full_name_tokens (parts n)) (sign 93 ∷ []) ∙ ap (λ l. l ++ 93 ∷ []) (full_said n))
+    ∙ sym (append_assoc d (47 ∷ n) (93 ∷ [])))
 
 -- ---- texts of trees at an indentation, pretty or not
 

@@ -1,18 +1,18 @@
 -- What stands for fields of a pool that are not set is read so, in the words of the model.
-use Rattle.std.proofs.Common.{◌≡◌, inl, ℕ, not, Bool, true, false, true≢false, cond, Option, None, Some, unwrap_or, refl, sym, ap, ◌∙◌, subst}
+use Rattle.std.proofs.Common.{◌≡◌, inl, ℕ, Bool, true, false, true≢false, cond, Option, None, Some, unwrap_or, refl, sym, ap, ◌∙◌, subst}
 use Rattle.std.proofs.lemmas.Bool.{not-true, or_parts}
 use Rattle.std.specs.Option.{option_and_then}
 use Rattle.reflect_tables.specs.Types.{PoolType, FieldType}
 use Rattle.reflect_entries.specs.Members.{first_number}
 use Rattle.reflect_pool.specs.Parts.{members_of}
 use Rattle.reflect_pool.specs.Shapes.{is_repeated, holds_map}
-use Rattle.reflect_message.specs.Known.{is_float, holds_floats, known_field, known_extension}
+use Rattle.reflect_message.specs.Known.{is_float, known_field, known_extension}
 use Rattle.protobuf_model.specs.Types.{one, many, keyed, Field}
 use Rattle.text_model.specs.Printed.{lacks_presence}
 use Rattle.text_model.specs.Unset.{HasReadDefault, IsOfKind}
 use Rattle.text_model.specs.Unset as model
 use Rattle.message_view.specs.Sound.{IsSound}
-use Rattle.message_view.specs.Types.{default_of, either_field, entry_part, field_at, field_of, key_of, kind_in, label_of, oneof_at, part_of, place_in, types_of, values_of}
+use Rattle.message_view.specs.Types.{default_of, either_field, entry_part, field_of, key_of, kind_in, label_of, oneof_at, part_of, place_in, types_of, values_of}
 use Rattle.message_view.proofs.Elements.{kind_scalar}
 use Rattle.message_view.proofs.Entries.{Sort, plain, floating, message_type, sort_of}
 use Rattle.message_view.proofs.Fields.{held_is}

@@ -1,5 +1,5 @@
 -- The text of values and messages is that of their trees.
-use Rattle.std.proofs.Common.{◌≡◌, ℕ, ℤ, zero, suc, ◌+◌, ◌&&◌, ◌||◌, Bool, true, false, true≢false, cond, not, List, [], ◌∷◌, ◌++◌, map, Option, Some, None, unwrap_or, codes, refl, sym, ap, ◌∙◌, subst, append-nil, append_assoc}
+use Rattle.std.proofs.Common.{◌≡◌, ◌⊎◌, ℕ, ℤ, zero, suc, ◌+◌, ◌-◌, ◌&&◌, ◌||◌, Bool, true, false, true≢false, cond, not, List, [], ◌∷◌, ◌++◌, map, Option, Some, None, unwrap_or, codes, refl, sym, ap, ◌∙◌, subst, append-nil, append_assoc}
 use Rattle.std.specs.List.{AllByRecursion}
 use Rattle.protox_lex.specs.Class.{Text}
 use Rattle.reflect_tables.specs.Types.{PoolType, FieldType, KindType, type_at, type_of_field, no_field}
@@ -14,17 +14,18 @@ use Rattle.reflect_message.specs.Known.{is_float, entry_field, has_floats, holds
 use Rattle.reflect_message.specs.Messages.{message_in}
 use Rattle.reflect_message.specs.Singles as singles
 use Rattle.reflect_message.specs.Names.{DynamicMessage, Value}
+use Rattle.print_parts.specs.Expands.{Expands}
 use Rattle.print_parts.specs.Entries.{Entry, field, extension, undeclared, AreDeclared, extension_entries}
-use Rattle.reflect_print.specs.MessageTexts.{before_value, any_behind, key_text, value_text, IsSingleText, IsValueText, single_text, message_text, list_text, map_text, IsListText, no_values, more_values, IsPairText, pair_text, IsMapText, no_pairs, more_pairs, IsBracedText, braced, IsItemsText, expanded, listed, IsRowText, no_entries, more_entries, IsEntryText, field_text, extension_text, record_text}
+use Rattle.reflect_print.specs.MessageTexts.{MayExpand, before_value, any_behind, key_text, value_text, IsSingleText, IsValueText, single_text, message_text, list_text, map_text, IsListText, no_values, more_values, IsPairText, pair_text, IsMapText, no_pairs, more_pairs, IsBracedText, braced, IsItemsText, expanded, listed, IsRowText, no_entries, more_entries, IsEntryText, field_text, extension_text, record_text}
 use Rattle.reflect_print.specs.Named.{Named, named, value_kind, label_of}
-use Rattle.text_lines.specs.Pieces.{padding, colon, before_element, before_item}
+use Rattle.text_lines.specs.Pieces.{bracketed, padding, colon, before_element, before_item}
 use Rattle.text_lines.specs.declared.options.FormatOptions.{FormatOptions}
 use Rattle.text_lines.specs.Pieces as pieces
 use Rattle.protobuf_model.specs.Types.{Name}
 use Rattle.protobuf_model.specs.Values as model
 use Rattle.protobuf_model.specs.Values.{Content, Message, chain_of, entries_of}
 use Rattle.text_model.specs.Forms.{Form, between}
-use Rattle.text_model.specs.Printed.{Inner, joined, parts, printed_content, printed_list, printed_entry, printed_entries, printed_fields, printed_single, value_in}
+use Rattle.text_model.specs.Printed.{Inner, expanded_as, in_any, joined, or_fields, parts, printed_by, printed_content, printed_list, printed_entry, printed_entries, printed_fields, printed_single, value_in}
 use Rattle.text_model.specs.Rendered.{run}
 use Rattle.text_model.specs.Schemas.{Schema}
 use Rattle.text_model.specs.Tokens.{scalar_tokens}
@@ -41,17 +42,17 @@ use Rattle.text_view.specs.Names.{name_in}
 use Rattle.text_view.specs.Schemas.{schema_of}
 use Rattle.print_view.specs.Forms.{form_of}
 use Rattle.print_view.proofs.Parts.{HaveValues}
-use Rattle.print_view.proofs.Pieces.{Pair, value_shown, given_shown, list_shown, scalar_value, scalar_given, message_given, list_given, list_none, list_more, one, row, word_said, name_said, bracket_said, row_append, any_pairs, any_append, braced_said}
+use Rattle.print_view.proofs.Pieces.{Pair, value_shown, given_shown, list_shown, scalar_value, scalar_given, message_given, list_given, list_none, list_more, one, row, word_said, name_said, bracket_said, url_said, row_append, any_pairs, any_append, braced_said}
 use Rattle.print_view.proofs.Singles.{single_said, key_said}
 
--- the options that tell the fields that are set, pretty or not, by number or as declared
-abbrev pub own_options : (p skip as_declared : Bool) → FormatOptions
-own_options p skip as_declared = record {
+-- the options that tell fields and no unknown records
+abbrev pub own_options : (p skip as_declared expand : Bool) → FormatOptions
+own_options p skip as_declared expand = record {
   pretty = p;
   skip_unknown_fields = true;
   skip_default_fields = skip;
   in_index_order = as_declared;
-  expand_any = false;
+  expand_any = expand;
 }
 
 -- what is seen of a value is of one sort
@@ -70,10 +71,10 @@ no_enum (keys.U32 m) n e = cc e
 no_enum (keys.U64 m) n e = cc e
 no_enum (keys.String t) n e = cc e
 
-module _ (p skip as_declared : Bool) (pool : PoolType) (fields_of : HaveEntryFields pool) (values : HaveValues pool) (decoded : Name → Text → Option Message) (inner : Inner) (payloads : ℕ) where
+module _ (p skip as_declared expand : Bool) (pool : PoolType) (fields_of : HaveEntryFields pool) (values : HaveValues pool) (decoded : Name → Text → Option Message) (inner : Inner) (payloads : ℕ) where
   -- the options, and the form that they are
   abbrev pub options : FormatOptions
-  options = own_options p skip as_declared
+  options = own_options p skip as_declared expand
 
   abbrev pub own : Form
   own = form_of options
@@ -85,12 +86,16 @@ module _ (p skip as_declared : Bool) (pool : PoolType) (fields_of : HaveEntryFie
   abbrev pub given : FieldType → Value → Given
   given f v = printed_content own schema inner (name_in pool f.kind) (kind_in pool f.group f.kind) (content_view v)
 
-  -- what is printed of a message
+  -- the fields of a message, and what is printed of it
   abbrev pub pairs_in : DynamicMessage → List Pair
   pairs_in m = printed_fields own schema inner (name_at pool m.descriptor.index) (view m)
 
   abbrev pub tree_of : DynamicMessage → Fields
-  tree_of m = joined (between p) (pairs_in m)
+  tree_of m = printed_by own schema inner (name_at pool m.descriptor.index) (view m)
+
+  -- as an Any
+  abbrev pub of_any : DynamicMessage → Option Fields
+  of_any m = in_any own schema inner (name_at pool m.descriptor.index) (view m)
 
   -- a text is that of a value in a list, and behind a name, at an indentation
   abbrev Said : ℕ → FieldType → Value → Text → Type 0
@@ -260,9 +265,32 @@ module _ (p skip as_declared : Bool) (pool : PoolType) (fields_of : HaveEntryFie
   held_said i f v z false true is whole shows levels fits = subst (λ g. Behind i g v z) (sym (one_of f is)) (shows false true is (not_float f whole is) levels fits)
   held_said i f v z false false is whole shows levels fits = subst (λ g. Behind i g v z) (sym (one_of f is)) (shows false false is (not_float f whole is) levels fits).1
 
-  module _ (printed : Printed) where
+  -- a text is that of what is printed of a message, without braces, and tells whether that is anything
+  abbrev pub ShowsItems : Bool → ℕ → DynamicMessage → Bool → Text → Type 0
+  ShowsItems braces i m any z = (ps : List Pair) × (tree_of m ≡ joined (between p) ps) × (z ≡ row p braces i false ps) × (any ≡ any_pairs false ps)
+
+  -- what has to be shown of an Any with so many expansions left, that is not expanded and that is
+  abbrev pub Unexpanded : ℕ → Type 0
+  Unexpanded x = (levels : ℕ) (m : DynamicMessage) → m.descriptor.pool.now ≡ pool → Shaped (suc levels) m → ((MayExpand options x → ⊥) ⊎ Expands m None) → of_any m ≡ None
+
+  abbrev pub Expansion : ℕ → Type 0
+  Expansion x = (levels : ℕ) (m : DynamicMessage) → m.descriptor.pool.now ≡ pool → Shaped (suc levels) m → (url : Text) (body : DynamicMessage) → MayExpand options x → Expands m (Some (url, body))
+      → (i : ℕ) (z : Text) → IsBracedText options payloads (x - 1) i body z
+      → (u : Text × Text) × (fs : Fields) × (u.0 ++ 47 ∷ u.1 ≡ url) × (of_any m ≡ Some (expanded_as u fs)) × (z ≡ value_shown p i (tree.braced curly fs))
+
+  -- an expansion under its URL
+  expansion_row : (braces : Bool) (i : ℕ) (u : Text × Text) (fs : Fields) (url y : Text) → u.0 ++ 47 ∷ u.1 ≡ url → y ≡ value_shown p i (tree.braced curly fs)
+      → before_item p braces false i ++ (bracketed url ++ (padding p ++ y)) ≡ row p braces i false ((tree.expansion (parts u.0) (parts u.1), tree.one_message false curly fs) ∷ [])
+  expansion_row braces i u fs url y whole said =
+      ap (λ l. before_item p braces false i ++ l)
+      (ap (λ l. bracketed url ++ (padding p ++ l)) said
+      ∙ ap (λ l. bracketed url ++ l) (sym (message_given p i fs))
+      ∙ ap (λ l. l ++ given_shown p i (tree.one_message false curly fs)) (ap bracketed (sym whole) ∙ sym (url_said u.0 u.1))
+      ∙ sym (append-nil (one p i (tree.expansion (parts u.0) (parts u.1), tree.one_message false curly fs))))
+
+  module _ (x : ℕ) (printed : Printed) (unexpanded : Unexpanded x) (expansion : Expansion x) where
     mutual
-      value_said : {x i : ℕ} {kind : Named} {v : Value} {z : Text} → IsValueText options payloads x i kind v z → (levels : ℕ) (f : FieldType) (b c : Bool) → kind ≡ named pool f.kind → Whole b f → FitsAs (Shaped levels) pool f b c v → Shows b c i f v z
+      value_said : {i : ℕ} {kind : Named} {v : Value} {z : Text} → IsValueText options payloads x i kind v z → (levels : ℕ) (f : FieldType) (b c : Bool) → kind ≡ named pool f.kind → Whole b f → FitsAs (Shaped levels) pool f b c v → Shows b c i f v z
       value_said {i = i} {v = v} (single_text s is text) levels f true c kind whole fits = absurd (cc (sym (single_seen v s is) ∙ map_seen v fits.0 fits.1))
       value_said {i = i} {v = v} (single_text s is text) levels f false true kind whole fits = absurd (cc (sym (single_seen v s is) ∙ list_seen v fits.0 fits.1))
       value_said {i = i} {v = v} {z = z} (single_text s is text) levels f false false kind whole fits =
@@ -301,46 +329,53 @@ module _ (p skip as_declared : Bool) (pool : PoolType) (fields_of : HaveEntryFie
         by (plain type) = let w = fits.plain type in absurd (cc (sym (single_seen v w.0 w.1) ∙ map_seen v es is))
         by (message_type type) = let n = fits.nested type in absurd (cc (sym (message_seen v n.0 n.1) ∙ map_seen v es is))
 
-      list_said : {x i : ℕ} {kind : Named} {first : Bool} {vs : List Value} {z : Text} → IsListText options payloads x i kind first vs z → (levels : ℕ) (f : FieldType) → kind ≡ named pool f.kind → is_float f.kind ≡ false → AllByRecursion (FitsOne (Shaped levels) pool f) vs
+      list_said : {i : ℕ} {kind : Named} {first : Bool} {vs : List Value} {z : Text} → IsListText options payloads x i kind first vs z → (levels : ℕ) (f : FieldType) → kind ≡ named pool f.kind → is_float f.kind ≡ false → AllByRecursion (FitsOne (Shaped levels) pool f) vs
           → z ≡ list_shown p first i (printed_list own schema inner (name_in pool f.kind) (kind_in pool f.group f.kind) (chain_of (map content_view vs)))
       list_said {i = i} {first = first} no_values levels f kind whole fits = sym (list_none p first i)
       list_said {i = i} {first = first} (more_values {v = v} {vs = vs} y rest text texts) levels f kind whole fits =
           more_said first i (value_in (given f v)) (printed_list own schema inner (name_in pool f.kind) (kind_in pool f.group f.kind) (chain_of (map content_view vs))) y rest (value_said text levels f false false kind whole fits.0).0 (list_said texts levels f kind whole fits.1)
 
-      pair_said : {x i : ℕ} {kind : Named} {e : MapKey × Value} {z : Text} → IsPairText options payloads x i kind e z → (levels : ℕ) (f : FieldType) → kind ≡ named pool f.kind → is_float f.kind ≡ false → FitsOne (Shaped levels) pool f e.1
+      pair_said : {i : ℕ} {kind : Named} {e : MapKey × Value} {z : Text} → IsPairText options payloads x i kind e z → (levels : ℕ) (f : FieldType) → kind ≡ named pool f.kind → is_float f.kind ≡ false → FitsOne (Shaped levels) pool f e.1
           → z ≡ value_shown p i (printed_entry (between p) (printed_single (name_in pool f.kind) (single_view (key_view e.0))) (given f e.1))
       pair_said {i = i} {e = e} (pair_text key value keyed text) levels f kind whole fits =
           entry_said f e.1 (printed_single (name_in pool f.kind) (single_view (key_view e.0))) i key value (key_said pool f.kind (key_view e.0) key (no_enum e.0) keyed) (value_said text levels f false false kind whole fits).1
 
-      map_said : {x i : ℕ} {kind : Named} {first : Bool} {es : List (MapKey × Value)} {z : Text} → IsMapText options payloads x i kind first es z → (levels : ℕ) (f : FieldType) → kind ≡ named pool f.kind → is_float f.kind ≡ false → AllByRecursion (λ (e : MapKey × Value). FitsOne (Shaped levels) pool f e.1) es
+      map_said : {i : ℕ} {kind : Named} {first : Bool} {es : List (MapKey × Value)} {z : Text} → IsMapText options payloads x i kind first es z → (levels : ℕ) (f : FieldType) → kind ≡ named pool f.kind → is_float f.kind ≡ false → AllByRecursion (λ (e : MapKey × Value). FitsOne (Shaped levels) pool f e.1) es
           → z ≡ list_shown p first i (printed_entries own schema inner (name_in pool f.kind) (kind_in pool f.group f.kind) (entries_of (pairs_view es)))
       map_said {i = i} {first = first} no_pairs levels f kind whole fits = sym (list_none p first i)
       map_said {i = i} {first = first} (more_pairs {e = e} {es = es} y rest text texts) levels f kind whole fits =
           more_said first i (printed_entry (between p) (printed_single (name_in pool f.kind) (single_view (key_view e.0))) (given f e.1)) (printed_entries own schema inner (name_in pool f.kind) (kind_in pool f.group f.kind) (entries_of (pairs_view es))) y rest (pair_said text levels f kind whole fits.0) (map_said texts levels f kind whole fits.1)
 
-      braced_text : {x i : ℕ} {m : DynamicMessage} {z : Text} → IsBracedText options payloads x i m z → (levels : ℕ) → m.descriptor.pool.now ≡ pool → Shaped levels m → z ≡ value_shown p i (tree.braced curly (tree_of m))
+      pub braced_text : {i : ℕ} {m : DynamicMessage} {z : Text} → IsBracedText options payloads x i m z → (levels : ℕ) → m.descriptor.pool.now ≡ pool → Shaped levels m → z ≡ value_shown p i (tree.braced curly (tree_of m))
       braced_text {i = i} {m = m} (braced any y text) levels there shaped =
           let h = items_said text levels there shaped in
-          ap (λ b. pieces.in_braces p i b y) h.1 ∙ ap (pieces.in_braces p i (any_pairs false (pairs_in m))) h.0
-          ∙ braced_said p i (pairs_in m)
+          ap (λ b. pieces.in_braces p i b y) h.3 ∙ ap (pieces.in_braces p i (any_pairs false h.0)) h.2
+          ∙ braced_said p i h.0 ∙ ap (λ fs. value_shown p i (tree.braced curly fs)) (sym h.1)
 
-      pub items_said : {x i : ℕ} {braces any : Bool} {m : DynamicMessage} {z : Text} → IsItemsText options payloads x i braces m any z → (levels : ℕ) → m.descriptor.pool.now ≡ pool → Shaped levels m
-          → (z ≡ row p braces i false (pairs_in m)) × (any ≡ any_pairs false (pairs_in m))
-      items_said (expanded url body y may stands text) levels there shaped = absurd (cc may.0)
+      pub items_said : {i : ℕ} {braces any : Bool} {m : DynamicMessage} {z : Text} → IsItemsText options payloads x i braces m any z → (levels : ℕ) → m.descriptor.pool.now ≡ pool → Shaped levels m → ShowsItems braces i m any z
+      items_said (expanded url body y may stands text) zero there shaped = absurd shaped
+      items_said {i = i} {braces = braces} {m = m} (expanded url body y may stands text) (suc levels) there shaped =
+          let h = expansion levels m there shaped url body may stands i y text in (
+            (tree.expansion (parts h.0.0) (parts h.0.1), tree.one_message false curly h.1) ∷ [],
+            ap (λ o. or_fields o (joined (between p) (pairs_in m))) h.3,
+            expansion_row braces i h.0 h.1 url y h.2 h.4,
+            refl,
+          )
       items_said (listed ds os y rest either declared others first second) zero there shaped = absurd shaped
       items_said {i = i} {braces = braces} {m = m} (listed ds os y rest either declared others first second) (suc levels) there shaped =
           let all = printed levels m there shaped ds declared in
-          rows_said braces i m ds os y rest others
+          let rows = rows_said braces i m ds os y rest others
           (row_said first levels all.0)
-          (row_said second levels (subst (AllByRecursion (EntryFits levels)) (sym others) all.1)) all.2
+          (row_said second levels (subst (AllByRecursion (EntryFits levels)) (sym others) all.1)) all.2 in
+          (pairs_in m, ap (λ o. or_fields o (joined (between p) (pairs_in m))) (unexpanded levels m there shaped either), rows.0, rows.1)
 
-      row_said : {x i : ℕ} {braces any : Bool} {es : List Entry} {z : Text} → IsRowText options payloads x i braces any es z → (levels : ℕ) → AllByRecursion (EntryFits levels) es → z ≡ row p braces i any (map pair_of es)
+      row_said : {i : ℕ} {braces any : Bool} {es : List Entry} {z : Text} → IsRowText options payloads x i braces any es z → (levels : ℕ) → AllByRecursion (EntryFits levels) es → z ≡ row p braces i any (map pair_of es)
       row_said no_entries levels fits = refl
       row_said {i = i} {braces = braces} {any = any} (more_entries {e = e} {es = es} y rest text texts) levels fits =
           ap (λ l. before_item p braces any i ++ (l ++ rest)) (entry_text text levels fits.0)
           ∙ ap (λ l. before_item p braces any i ++ (one p i (pair_of e) ++ l)) (row_said texts levels fits.1)
 
-      entry_text : {x i : ℕ} {e : Entry} {z : Text} → IsEntryText options payloads x i e z → (levels : ℕ) → EntryFits levels e → z ≡ one p i (pair_of e)
+      entry_text : {i : ℕ} {e : Entry} {z : Text} → IsEntryText options payloads x i e z → (levels : ℕ) → EntryFits levels e → z ≡ one p i (pair_of e)
       entry_text {i = i} (field_text {pool = q} {f = f} {v = v} y text) levels fits =
           ap (λ q. label_of q f ++ (before_value p (message_in v) ++ y)) fits.0
           ∙ ap (λ l. label_of pool f ++ l) (held_said i f v y (holds_map pool f) (holds_list pool f) refl fits.1 (λ b c is whole levels. value_said text levels f b c (ap (λ q. named q f.kind) fits.0) whole) levels fits.2)

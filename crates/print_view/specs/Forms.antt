@@ -21,11 +21,6 @@ form_of options = record {
   expands = options.expand_any;
 }
 
--- the fields of a message, and neither records of unknown numbers nor what an Any holds
-pub record TellsFields (options : FormatOptions) : Type 0 where
-  pub declared : options.skip_unknown_fields ≡ true
-  pub unexpanded : options.expand_any ≡ false
-
 -- a field of one message has presence
 abbrev pub HaveMessagePresence : PoolType → Type 0
 HaveMessagePresence pool =

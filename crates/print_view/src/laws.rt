@@ -1,5 +1,5 @@
 //! Laws of what is printed of messages, each the contract of a function that does nothing.
-ghost use Rattle.std.specs.Prelude.{◌≡◌, ◌≤◌, ℕ, List, Option, false};
+ghost use Rattle.std.specs.Prelude.{◌≡◌, ◌≤◌, ℕ, List, Option, false, true};
 ghost use Rattle.protox_lex.specs.Class.{Text};
 ghost use Rattle.reflect_pool.specs.declared.message.MessageDescriptor.{MessageDescriptor};
 ghost use Rattle.reflect_wire.specs.Written.{AreBytes};
@@ -12,6 +12,7 @@ ghost use Rattle.text_lines.specs.declared.options.FormatOptions.{FormatOptions}
 ghost use Rattle.reflect_print.specs.MessageTexts.{IsMessageText};
 ghost use Rattle.protobuf_model.specs.Types.{Name};
 ghost use Rattle.protobuf_model.specs.Values.{Message};
+ghost use Rattle.text_model.specs.Expansions.{HasOneForm};
 ghost use Rattle.text_model.specs.Plain.{IsPlain};
 ghost use Rattle.text_model.specs.Printed.{printed};
 ghost use Rattle.text_model.specs.Rendered.{text_of};
@@ -23,35 +24,41 @@ ghost use Rattle.message_view.specs.Types.{name_at, types_of};
 ghost use Rattle.message_view.specs.Views.{view};
 ghost use Rattle.text_view.specs.Schemas.{schema_of};
 ghost use Rattle.text_view.specs.SourceNames.{HasSourceNames};
-ghost use Rattle.print_view.specs.Forms.{form_of, HaveMessagePresence, HaveReadDefaults, TellsFields};
+ghost use Rattle.print_view.specs.Expansions.{DecodesIn, HasUsualAny};
+ghost use Rattle.print_view.specs.Forms.{form_of, HaveMessagePresence, HaveReadDefaults};
 
-/// The text of a decoded message, in each form that tells fields and nothing else, is that of the
-/// tree which the model prints in this form; with defaults, where a field of one message has
-/// presence.
+/// The text of a decoded message, in each form that tells no unknown records, is that of the tree
+/// which the model prints in this form: with defaults, where a field of one message has presence;
+/// with expansions, of what is decoded as the printer does, where a google.protobuf.Any has no
+/// defaults.
 pub fn decoded_messages_are_printed_as_their_trees()
-    ensures { (options : FormatOptions) → TellsFields options
-        → (d : MessageDescriptor) → IsSound d.pool.now
+    ensures { (options : FormatOptions) → options.skip_unknown_fields ≡ true
+        → (decoded : Name → Text → Option Message) (d : MessageDescriptor) → IsSound d.pool.now
         → (options.skip_default_fields ≡ false → HaveMessagePresence d.pool.now)
+        → (options.expand_any ≡ true → DecodesIn d.pool.now decoded × HasUsualAny d.pool.now)
         → (bytes : List ℕ) (m : DynamicMessage) → m.descriptor ≡ d → IsSpelled d bytes m
-        → (decoded : Name → Text → Option Message) (z : Text) → IsMessageText options m z
+        → (z : Text) → IsMessageText options m z
         → z ≡ text_of (form_of options) (printed (form_of options)
         (schema_of d.pool.now decoded) (name_at d.pool.now d.index) (view m)) }
 {}
 
 /// Where names are spelled as in sources, what is printed of a decoded message whose records all
-/// have fields makes, in each form that tells fields and nothing else, and as a text of its type,
-/// messages that are written in the same bytes, if no more than 100 braces are open in it at once;
-/// with defaults, where a field of one message has presence, and a field without presence a default
-/// of its kind and no oneof.
+/// have fields makes, in each of these forms, and as a text of its type, messages that are written
+/// in the same bytes, if no more than 100 braces are open in it at once: with defaults, where also a
+/// field without presence has a default of its kind and no oneof; with expansions, where also each
+/// Any that is expanded holds the one form of a message and nothing else.
 pub fn printed_messages_are_read_back()
-    ensures { (options : FormatOptions) → TellsFields options
+    ensures { (options : FormatOptions) → options.skip_unknown_fields ≡ true
         → (decoded : Name → Text → Option Message) (d : MessageDescriptor)
         → IsSound d.pool.now → HasSourceNames d.pool.now
         → (options.skip_default_fields ≡ false
         → HaveMessagePresence d.pool.now × HaveReadDefaults d.pool.now)
+        → (options.expand_any ≡ true → DecodesIn d.pool.now decoded × HasUsualAny d.pool.now)
         → (bytes : List ℕ) → AreBytes bytes
         → (m : DynamicMessage) → m.descriptor ≡ d → IsSpelled d bytes m
         → IsPlain (types_of d.pool.now) (name_at d.pool.now d.index) (view m)
+        → (options.expand_any ≡ true → HasOneForm 100 (schema_of d.pool.now decoded)
+        (name_at d.pool.now d.index) (view m))
         → open_braces (printed (form_of options) (schema_of d.pool.now decoded)
         (name_at d.pool.now d.index) (view m)) ≤ 100
         → (z : Text) → IsMessageText options m z
@@ -61,14 +68,17 @@ pub fn printed_messages_are_read_back()
 
 /// And it is not refused as a text that the type does not take.
 pub fn printed_messages_are_taken()
-    ensures { (options : FormatOptions) → TellsFields options
+    ensures { (options : FormatOptions) → options.skip_unknown_fields ≡ true
         → (decoded : Name → Text → Option Message) (d : MessageDescriptor)
         → IsSound d.pool.now → HasSourceNames d.pool.now
         → (options.skip_default_fields ≡ false
         → HaveMessagePresence d.pool.now × HaveReadDefaults d.pool.now)
+        → (options.expand_any ≡ true → DecodesIn d.pool.now decoded × HasUsualAny d.pool.now)
         → (bytes : List ℕ) → AreBytes bytes
         → (m : DynamicMessage) → m.descriptor ≡ d → IsSpelled d bytes m
         → IsPlain (types_of d.pool.now) (name_at d.pool.now d.index) (view m)
+        → (options.expand_any ≡ true → HasOneForm 100 (schema_of d.pool.now decoded)
+        (name_at d.pool.now d.index) (view m))
         → open_braces (printed (form_of options) (schema_of d.pool.now decoded)
         (name_at d.pool.now d.index) (view m)) ≤ 100
         → (z : Text) → IsMessageText options m z

@@ -1,5 +1,5 @@
 -- Messages and what they are printed as.
-use Rattle.std.proofs.Common.{◌≤◌, true, false, subst, ◌≡◌, ◌↔◌, sym, ap, ◌∙◌}
+use Rattle.std.proofs.Common.{◌≤◌, true, subst, ◌≡◌, ◌↔◌, sym, ap, ◌∙◌}
 use Rattle.protobuf_model.specs.Coded.{SuitsType}
 use Rattle.protobuf_model.specs.Types.{Name}
 use Rattle.protobuf_model.specs.Values.{Message, nothing}

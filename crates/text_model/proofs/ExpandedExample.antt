@@ -1,18 +1,17 @@
 -- A worked case: the premise of the laws of expansions is met by what an expansion gives.
-use Rattle.std.proofs.Common.{◌≡◌, ◌⊎◌, inl, inr, ℕ, zero, suc, pos, ◌<◌, ◌^◌, ◌==◌, length, Bool, true, false, cond, [], ◌∷◌, Option, None, Some, unwrap_or, codes, refl, sym, ap, ◌∙◌, subst, arith}
+use Rattle.std.proofs.Common.{◌≡◌, inl, inr, ℕ, zero, suc, pos, ◌<◌, ◌^◌, ◌==◌, length, Bool, true, false, cond, [], ◌∷◌, Option, None, Some, unwrap_or, codes, refl, sym, ap, ◌∙◌, subst, arith}
 use Rattle.std.proofs.lemmas.Bool.Decides.{eqb_tells}
 use mathlib.Core.Path.{fun_ext}
 use Rattle.protox_lex.specs.Class.{Text}
 use Rattle.protobuf_model.specs.Bytes.{bytes_of}
 use Rattle.protobuf_model.specs.Typed.{IsHeldOf, IsTypedBy, IsTyped}
 use Rattle.protobuf_model.specs.Types.{Name, Field, oneof_of, rival}
-use Rattle.protobuf_model.specs.Values.{int32, text, blob, single, content, Held, Message, absent, nothing}
+use Rattle.protobuf_model.specs.Values.{int32, single, content, Held, Message, absent, nothing}
 use Rattle.text_model.specs.Expansions.{EachSuits, HasOneForm, HoldsOneForm, IsOneForm}
 use Rattle.text_model.specs.Plain.{IsPlain, IsPlainHeld}
-use Rattle.text_model.specs.Printed.{bytes_in, last_slash, text_in}
 use Rattle.text_model.specs.Schemas.{shape_of}
 use Rattle.text_model.specs.Value.{hold}
-use Rattle.text_model.proofs.Examples.{any_message, n_bytes, n_given, n_message, number, other_number, schema, type_n, types, url}
+use Rattle.text_model.proofs.Examples.{any_message, n_bytes, n_message, number, schema, type_n, types, url}
 use Rattle.text_model.proofs.Unset.{no_sibling}
 
 -- ---- message N { int32 bar = 2; } with bar: 66
@@ -67,7 +66,7 @@ any_one = record {
   alone = ap (λ b. hold (shape_of schema (codes "Any")) url b nothing) n_written;
 }
 
-any_form : (more : ℕ) → IsOneForm (HasOneForm more schema) schema (codes "Any") any_message
+pub any_form : (more : ℕ) → IsOneForm (HasOneForm more schema) schema (codes "Any") any_message
 any_form more is u bytes t held slash known there decoded =
     let its_url : (codes "x.y", codes "N") ≡ u = ap (λ o. unwrap_or o u) slash in
     let its_type : type_n ≡ t = ap (λ o. unwrap_or o t) (subst (λ (u : Text × Text). schema.message u.1 ≡ Some t) (sym its_url) known) in

@@ -1,5 +1,5 @@
 -- An Any is given back by its expansion, and a message by what is printed of it.
-use Rattle.std.proofs.Common.{◌≡◌, ◌⊎◌, ◌<◌, ◌^◌, ◌==◌, nat_lt, length, Bool, true, false, cond, List, [], ◌∷◌, ◌++◌, Option, None, Some, option_and_then, unwrap_or, refl, sym, ap, ap₂, ◌∙◌, subst}
+use Rattle.std.proofs.Common.{◌≡◌, ◌^◌, ◌==◌, nat_lt, length, Bool, true, false, cond, [], ◌∷◌, ◌++◌, Option, None, Some, option_and_then, unwrap_or, refl, sym, ap, ap₂, ◌∙◌, subst}
 use Rattle.std.proofs.lemmas.Bool.{eqb-true, lt-ltb}
 use Rattle.protox_lex.specs.Class.{Text}
 use Rattle.protobuf_model.specs.Bytes.{bytes_of}

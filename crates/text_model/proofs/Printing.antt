@@ -1,5 +1,5 @@
 -- The fields that a message is printed as give the message.
-use Rattle.std.proofs.Common.{not, ◌≡◌, ◌⊎◌, inl, inr, ℕ, zero, suc, ◌==◌, ◌||◌, ◌&&◌, Bool, true, false, cond, List, [], ◌∷◌, ◌++◌, Option, None, Some, option_and_then, refl, sym, ap, ◌∙◌, subst}
+use Rattle.std.proofs.Common.{not, ◌≡◌, ◌⊎◌, inl, inr, ℕ, ◌==◌, ◌||◌, ◌&&◌, Bool, true, false, cond, List, [], ◌∷◌, ◌++◌, Option, None, Some, option_and_then, refl, sym, ap, ◌∙◌, subst}
 use Rattle.std.specs.List.{flat_map}
 use Rattle.std.proofs.lemmas.Bool.Decides.{eqb_tells}
 use Rattle.std.proofs.lemmas.Bool.{and_parts, not-true, or_from}
@@ -8,12 +8,12 @@ use Rattle.protox_lex.specs.Class.{Text}
 use Rattle.reflect_wire.specs.Records.{Payload}
 use Rattle.protobuf_model.specs.Values.{Content, Held, content, records, Message, absent, nothing}
 use Rattle.protobuf_model.specs.Types.{Name, Key, keyed, Field, oneof_of, rival}
-use Rattle.protobuf_model.specs.Typed.{IsHeldOf, IsTypedBy, IsTyped}
-use Rattle.text_model.specs.Tree.{FieldName, plain, extension, Given, Separator, Fields}
+use Rattle.protobuf_model.specs.Typed.{IsHeldOf, IsTypedBy}
+use Rattle.text_model.specs.Tree.{FieldName, plain, extension, Given, Separator}
 use Rattle.text_model.specs.Forms.{Form, between}
-use Rattle.text_model.specs.Schemas.{Schema, Shape, shape_of, Finds, AreNames, IsEntryType, HaveNames, Names}
+use Rattle.text_model.specs.Schemas.{Schema, Shape, shape_of, Finds, AreNames, IsEntryType}
 use Rattle.text_model.specs.Value.{assign, written, with_field, named_value, value, body_value, field_value}
-use Rattle.text_model.specs.Printed.{Inner, in_any, or_fields, lacks_presence, default_given, unset, joined, parts, field_name, printing_order, printed_content, printed_held, printed_fields, printed_by, printed_within, printed}
+use Rattle.text_model.specs.Printed.{Inner, lacks_presence, default_given, unset, joined, parts, field_name, printing_order, printed_content, printed_held, printed_fields, printed_by}
 use Rattle.text_model.specs.Plain.{IsPlainHeld, IsPlain}
 use Rattle.text_model.specs.Unset.{HaveReadDefaults}
 use Rattle.text_model.proofs.Orders.{has, AreApart, true_false, order_has, order_apart}

@@ -1,5 +1,5 @@
 -- What a message is printed as is cut into its tokens again.
-use Rattle.std.proofs.Common.{codes, ◌≡◌, ℕ, ℤ, zero, suc, pos, negsuc, ◌<◌, ◌^◌, ◌&&◌, not, Bool, true, false, cond, List, [], ◌∷◌, ◌++◌, Option, Some, None, FitsSigned, refl, sym, subst, arith}
+use Rattle.std.proofs.Common.{codes, ◌≡◌, ℕ, ℤ, suc, pos, negsuc, ◌<◌, ◌^◌, ◌&&◌, not, Bool, true, false, cond, List, [], ◌∷◌, ◌++◌, Option, Some, None, FitsSigned, refl, sym, subst, arith}
 use Rattle.std.specs.Int.{w32, w64}
 use Rattle.std.specs.List.{flat_map, list_all, AllByRecursion}
 use Rattle.std.proofs.lemmas.Bool.{and_parts, not-true}
@@ -11,12 +11,12 @@ use Rattle.protobuf_model.specs.Types.{Name, Scalar, Kind, scalar, nested, Part,
 use Rattle.protobuf_model.specs.Types as kinds
 use Rattle.protobuf_model.specs.Scalars.{Suits}
 use Rattle.protobuf_model.specs.Coded.{SuitsType}
-use Rattle.protobuf_model.specs.Typed.{IsOf, IsEntryOf, IsFieldOf, IsHeldOf, IsTypedBy, IsTyped}
+use Rattle.protobuf_model.specs.Typed.{IsOf, IsEntryOf, IsFieldOf, IsHeldOf, IsTypedBy}
 use Rattle.text_model.specs.Tree.{one_scalar, FullName, FieldName, plain, extension, no_separator, Given, Fields, no_fields}
 use Rattle.text_model.specs.Tokens.{fields_tokens}
 use Rattle.text_model.specs.Forms.{Form, between}
 use Rattle.text_model.specs.Schemas.{Names, Schema}
-use Rattle.text_model.specs.Printed.{Inner, or_fields, joined, parts, field_name, lacks_presence, default_given, unset, natural, whole, named, printed_single, value_in, printed_content, printed_list, printed_entries, printed_held, printed_fields, printed_by, printed_within, printed, printing_order}
+use Rattle.text_model.specs.Printed.{Inner, joined, parts, field_name, lacks_presence, default_given, unset, natural, whole, named, printed_single, value_in, printed_content, printed_list, printed_entries, printed_held, printed_fields, printed_by, printed, printing_order}
 use Rattle.text_model.specs.Plain.{AreBytes, IsPlainContent, ArePlainContents, ArePlainEntries, IsPlainHeld, IsPlain}
 use Rattle.text_model.specs.Expansions.{HasOneForm, HoldsOneForm}
 use Rattle.text_model.specs.Unset.{IsOfKind, HasReadDefault, HaveReadDefaults}

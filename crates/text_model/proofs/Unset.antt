@@ -1,5 +1,5 @@
 -- What is printed of a field that is not set leaves it so.
-use Rattle.std.proofs.Common.{◌≡◌, ◌⊎◌, inl, inr, ℕ, ℤ, pos, negsuc, ◌==◌, ◌&&◌, ◌||◌, not, Bool, true, false, cond, List, [], ◌∷◌, ◌++◌, Option, None, Some, option_map, option_and_then, refl, sym, ap, ◌∙◌}
+use Rattle.std.proofs.Common.{◌≡◌, ◌⊎◌, inl, inr, ℕ, ℤ, pos, negsuc, ◌==◌, ◌&&◌, ◌||◌, not, Bool, true, false, cond, [], ◌++◌, Option, None, Some, option_map, option_and_then, refl, sym, ap, ◌∙◌}
 use Rattle.std.proofs.lemmas.Bool.{eq-eqb, not-true}
 use Rattle.std.proofs.lemmas.Bool.Decides.{eqb_tells}
 use Rattle.std.proofs.lemmas.Slice.Eq.{bytes_eq-Decides}
@@ -11,7 +11,7 @@ use Rattle.protobuf_model.specs.Meaning.{items, if_any, pairs, if_some, put_all}
 use Rattle.text_model.specs.Schemas.{Schema, Shape}
 use Rattle.text_model.specs.Value.{assign, settled, set_one, field_value}
 use Rattle.text_model.specs.Printed.{lacks_presence, default_given, printed_single}
-use Rattle.text_model.specs.Tree.{one_scalar, listed, no_values}
+use Rattle.text_model.specs.Tree.{one_scalar}
 use Rattle.text_model.specs.Unset.{IsOfKind, HasReadDefault}
 use Rattle.text_model.proofs.Contents.{set_back}
 use Rattle.text_model.proofs.Orders.{and_false, true_false}

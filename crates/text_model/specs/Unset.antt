@@ -1,5 +1,5 @@
 -- Types whose fields are read as not set where they are printed though they are not set.
-use Rattle.std.specs.Prelude.{◌≡◌, ℕ, Bool, true, false, Option, None, Some}
+use Rattle.std.specs.Prelude.{◌≡◌, ℕ, true, false, None, Some}
 use Rattle.protobuf_model.specs.Values.{Single}
 use Rattle.protobuf_model.specs.Types.{Name, Kind, scalar, nested, Part, Label, one, Field, Types}
 use Rattle.protobuf_model.specs.Scalars.{Suits}

@@ -1,0 +1,183 @@
+-- What the printer expands of an Any is what the model does.
+use Rattle.std.proofs.Common.{◌≡◌, inl, inr, ℕ, suc, ◌==◌, ◌&&◌, Bool, true, false, cond, List, [], ◌∷◌, ◌++◌, Option, Some, None, option_map, option_and_then, refl, sym, ap, ap₂, ◌∙◌, subst, arith}
+use Rattle.std.proofs.lemmas.Bool.Decides.{eqb_tells}
+use Rattle.protox_lex.specs.Class.{Text}
+use Rattle.reflect_wire.specs.declared.wire_error.WireError.{WireError}
+use Rattle.reflect_wire.specs.declared.wire_error.WireError.TheVariants as errors
+use Rattle.reflect_tables.specs.Types.{PoolType}
+use Rattle.reflect_pool.specs.declared.message.MessageDescriptor.{MessageDescriptor}
+use Rattle.reflect_any.specs.Any.{IsAny}
+use Rattle.reflect_message.specs.Contents.{content_of}
+use Rattle.reflect_message.specs.Names.{DynamicMessage, Value}
+use Rattle.reflect_decode.specs.Refused.{BodyFault}
+use Rattle.reflect_decode.specs.Spelled.{IsSpelled, TellsWhy}
+use Rattle.message_laws.proofs.Excluding.{excluded}
+use Rattle.print_parts.specs.Expands as any
+use Rattle.print_parts.specs.Expands.{Expands, FindsByUrl, IsFault, IsUnder, Lacks, holds, other, refused, without_bytes, without_type, without_url}
+use Rattle.print_parts.specs.Parts.{url_in}
+use Rattle.protobuf_model.specs.Types.{Name}
+use Rattle.protobuf_model.specs.Values.{Message}
+use Rattle.text_model.specs.Forms.{Form}
+use Rattle.text_model.specs.Printed.{Inner, bytes_in, expanded_as, held_in, in_any, last_slash, text_in}
+use Rattle.text_model.specs.Schemas.{Schema}
+use Rattle.text_model.specs.Tree.{Fields}
+use Rattle.message_view.specs.Shaped.{IsShaped, Shaped}
+use Rattle.message_view.specs.Sound.{IsSound}
+use Rattle.message_view.specs.Types.{name_at, place_in}
+use Rattle.message_view.specs.Views.{view}
+use Rattle.message_view.proofs.Recoded.{decoded_shaped}
+use Rattle.message_view.proofs.Sound.{found_at as placed}
+use Rattle.text_view.specs.Schemas.{is_any_at, schema_of}
+use Rattle.text_view.proofs.Any.{any_told, told_any}
+use Rattle.text_view.proofs.Wanted.{type_found, type_missing}
+use Rattle.print_view.specs.Expansions.{DecodesIn, HasUsualAny}
+use Rattle.print_view.proofs.AnyFields.{bytes_under, text_under}
+
+-- ---- URLs
+
+abbrev slash_behind : ℕ → Text → Option (Text × Text) → Option (Text × Text)
+slash_behind b bs (Some p) = Some (b ∷ p.0, p.1)
+slash_behind b bs None = cond (b == 47) (Some ([], bs)) None
+
+slash_next : (b : ℕ) (bs : Text) → last_slash (b ∷ bs) ≡ slash_behind b bs (last_slash bs)
+slash_next b bs = by (last_slash bs) where
+  by : (o : Option (Text × Text)) → elim o [ Some p ↦ Some (b ∷ p.0, p.1) | None ↦ cond (b == 47) (Some ([], bs)) None ] ≡ slash_behind b bs o
+  by (Some p) = refl
+  by None = refl
+
+no_slash : (z : Text) → Lacks 47 z → last_slash z ≡ None
+no_slash [] h = refl
+no_slash (b ∷ bs) h =
+    slash_next b bs ∙ ap (slash_behind b bs) (no_slash bs (λ j lt e. h (suc j) (omega (arith, lt)) e))
+    ∙ elim (eqb_tells b 47) [ inl e ↦ absurd (h 0 (omega arith) e.1) | inr e ↦ ap (λ t. cond t (Some ([], bs)) None) e.0 ]
+
+found_slash : (front name : Text) → Lacks 47 name → last_slash (front ++ 47 ∷ name) ≡ Some (front, name)
+found_slash [] name h = slash_next 47 name ∙ ap (slash_behind 47 name) (no_slash name h)
+found_slash (b ∷ front) name h = slash_next b (front ++ 47 ∷ name) ∙ ap (slash_behind b (front ++ 47 ∷ name)) (found_slash front name h)
+
+-- ---- bytes that are refused
+
+told_excluded : (d : MessageDescriptor) → IsSound d.pool.now → (bytes : List ℕ) (e : WireError) → IsFault e → TellsWhy d bytes e → (m : DynamicMessage) → IsSpelled d bytes m → ⊥
+told_excluded d sound bytes e is why m (rs, spelled, keeps, some, also, fields, (extensions, apart), accepts, ordered) = by e is why where
+  no : (e : WireError) → BodyFault 100 d.pool.now d.index None bytes e → ⊥
+  no e fault = excluded d.pool.now sound.keys 100 d.index bytes e fault rs spelled accepts
+
+  by : (e : WireError) → IsFault e → TellsWhy d bytes e → ⊥
+  by errors.Memory is why = absurd is
+  by errors.Truncated is why = no errors.Truncated why
+  by errors.BadVarint is why = no errors.BadVarint why
+  by errors.BadKey is why = no errors.BadKey why
+  by errors.BadWireType is why = no errors.BadWireType why
+  by errors.EndGroupMismatch is why = no errors.EndGroupMismatch why
+  by errors.TooDeep is why = no errors.TooDeep why
+  by errors.BadUtf8 is why = no errors.BadUtf8 why
+  by errors.TooLong is why = no errors.TooLong why
+
+-- ---- what is expanded
+
+off : (c : Bool) (o : Option Fields) → cond (c && false) o None ≡ None
+off true o = refl
+off false o = refl
+
+never : (c : Bool) → ◌≡◌ {A = Option Fields} (cond c None None) None
+never true = refl
+never false = refl
+
+module _ (form : Form) (decoded : Name → Text → Option Message) (inner : Inner) (m : DynamicMessage) (sound : IsSound m.descriptor.pool.now) (usual : HasUsualAny m.descriptor.pool.now) (decodes : DecodesIn m.descriptor.pool.now decoded)
+    (levels : ℕ) (shaped : IsShaped (Shaped levels) m.descriptor (content_of m)) where
+  abbrev its_pool : PoolType
+  its_pool = m.descriptor.pool.now
+
+  abbrev at : ℕ
+  at = m.descriptor.index
+
+  abbrev w : Schema
+  w = schema_of m.descriptor.pool.now decoded
+
+  abbrev t : Name
+  t = name_at m.descriptor.pool.now m.descriptor.index
+
+  here : is_any_at its_pool (place_in its_pool.messages t) ≡ is_any_at its_pool at
+  here = ap (is_any_at its_pool) (placed its_pool.messages at m.descriptor.in_range (λ k less e. sound.names at k m.descriptor.in_range less e))
+
+  -- by whether it is an Any, its URL, and its bytes
+  abbrev under_url : Option Text → Text × Text → Option Fields
+  under_url b url = option_map (expanded_as url) (option_and_then (held_in w inner url.1) b)
+
+  abbrev of_parts : Bool → Text → Option Text → Option Fields
+  of_parts is u b = cond (form.expands && is) (option_and_then (under_url b) (last_slash u)) None
+
+  url_is : IsAny m.descriptor → (u : Value) → IsUnder m 1 u → text_in (view m 1) ≡ url_in (any.text_of u)
+  url_is is u under = text_under m sound.apart levels shaped u under is.1 (λ g k. usual at 1 g (any_told m.descriptor is) k)
+
+  bytes_are : IsAny m.descriptor → (b : Value) → IsUnder m 2 b → bytes_in (view m 2) ≡ any.bytes_of b
+  bytes_are is b under = bytes_under m sound.apart levels shaped b under is.2 (λ g k. usual at 2 g (any_told m.descriptor is) k)
+
+  no_type : (url : Text) (b : Option Text) → FindsByUrl its_pool url None → of_parts true url b ≡ None
+  no_type url b (inl none) = ap (λ o. cond (form.expands && true) (option_and_then (under_url b) o) None) (no_slash url none.0) ∙ never (form.expands && true)
+  no_type url b (inr (front, name, is, lacks, missing)) =
+      ap (λ o. cond (form.expands && true) (option_and_then (under_url b) o) None) (ap last_slash is ∙ found_slash front name lacks)
+      ∙ ap (λ o. cond (form.expands && true) (option_map (expanded_as (front, name)) o) None) (nothing b)
+      ∙ never (form.expands && true) where
+        nothing : (b : Option Text) → option_and_then (held_in w inner name) b ≡ None
+        nothing None = refl
+        nothing (Some bytes) = ap (option_and_then (λ u. option_and_then (inner u) (decoded u bytes))) (type_missing its_pool name missing)
+
+  no_bytes : (o : Option (Text × Text)) → option_and_then (under_url None) o ≡ None
+  no_bytes None = refl
+  no_bytes (Some url) = refl
+
+  not_decoded : (d : MessageDescriptor) → d.pool.now ≡ its_pool → (bytes : Text) (e : WireError) → IsFault e → TellsWhy d bytes e → decoded (name_at its_pool d.index) bytes ≡ None
+  not_decoded d there bytes e fault why = by (decoded (name_at its_pool d.index) bytes) refl where
+    by : (o : Option Message) → decoded (name_at its_pool d.index) bytes ≡ o → o ≡ None
+    by None is = refl
+    by (Some v) is = let s = (decodes d there bytes v).0 is in absurd (told_excluded d (subst IsSound (sym there) sound) bytes e fault why s.0 s.2)
+
+  not_held : (url bytes : Text) (d : MessageDescriptor) → FindsByUrl its_pool url (Some d) → decoded (name_at its_pool d.index) bytes ≡ None → of_parts true url (Some bytes) ≡ None
+  not_held url bytes d (inl none) undecoded = absurd (cc none.1)
+  not_held url bytes d (inr (front, name, is, lacks, found)) undecoded =
+      ap (λ o. cond (form.expands && true) (option_and_then (under_url (Some bytes)) o) None) (ap last_slash is ∙ found_slash front name lacks)
+      ∙ ap (λ o. cond (form.expands && true) (option_map (expanded_as (front, name)) (option_and_then (λ u. option_and_then (inner u) (decoded u bytes)) o)) None) (type_found its_pool name d found)
+      ∙ ap (λ o. cond (form.expands && true) (option_map (expanded_as (front, name)) (option_and_then (inner (name_at its_pool d.index)) o)) None) undecoded
+      ∙ never (form.expands && true)
+
+  none_of : IsAny m.descriptor → Expands m None → of_parts true (text_in (view m 1)) (bytes_in (view m 2)) ≡ None
+  none_of is (other none) = absurd (none is)
+  none_of is (without_url u under none) = ap (λ z. of_parts true z (bytes_in (view m 2))) (url_is is u under ∙ ap url_in none) ∙ never (form.expands && true)
+  none_of is (without_type u url under told finds) = ap (λ z. of_parts true z (bytes_in (view m 2))) (url_is is u under ∙ ap url_in told) ∙ no_type url (bytes_in (view m 2)) finds
+  none_of is (without_bytes b under none) =
+      ap (of_parts true (text_in (view m 1))) (bytes_are is b under ∙ none)
+      ∙ ap (λ o. cond (form.expands && true) o None) (no_bytes (last_slash (text_in (view m 1)))) ∙ never (form.expands && true)
+  none_of is (refused u b url bytes d e under told finds there beside read fault why) =
+      ap₂ (of_parts true) (url_is is u under ∙ ap url_in told) (bytes_are is b beside ∙ read)
+      ∙ not_held url bytes d finds (not_decoded d there bytes e fault why)
+
+  -- nothing is, where the printer finds nothing
+  pub not_expanded : Expands m None → in_any form w inner t (view m) ≡ None
+  not_expanded none = by (is_any_at its_pool at) refl where
+    by : (b : Bool) → is_any_at its_pool at ≡ b → of_parts (is_any_at its_pool (place_in its_pool.messages t)) (text_in (view m 1)) (bytes_in (view m 2)) ≡ None
+    by false e = ap (λ b. of_parts b (text_in (view m 1)) (bytes_in (view m 2))) (here ∙ e) ∙ off form.expands (option_and_then (under_url (bytes_in (view m 2))) (last_slash (text_in (view m 1))))
+    by true e = ap (λ b. of_parts b (text_in (view m 1)) (bytes_in (view m 2))) (here ∙ e) ∙ none_of (told_any m.descriptor e) none
+
+  -- and what it finds is
+  pub is_expanded : {url : Text} {body : DynamicMessage} → form.expands ≡ true → Expands m (Some (url, body))
+      → (u : Text × Text) × (u.0 ++ 47 ∷ u.1 ≡ url) × (body.descriptor.pool.now ≡ its_pool) × Shaped 101 body
+      × (in_any form w inner t (view m) ≡ option_map (expanded_as u) (inner (name_at its_pool body.descriptor.index) (view body)))
+  is_expanded expands (holds u b url bytes d body is under told finds there beside read type spelled) = by finds where
+    by : FindsByUrl its_pool url (Some d)
+        → (u : Text × Text) × (u.0 ++ 47 ∷ u.1 ≡ url) × (body.descriptor.pool.now ≡ its_pool) × Shaped 101 body
+        × (in_any form w inner t (view m) ≡ option_map (expanded_as u) (inner (name_at its_pool body.descriptor.index) (view body)))
+    by (inl none) = absurd (cc none.1)
+    by (inr (front, name, whole, lacks, found)) = (
+      (front, name),
+      sym whole,
+      ap (λ (d : MessageDescriptor). d.pool.now) type ∙ there,
+      decoded_shaped d bytes body type spelled,
+      ap (λ b. of_parts b (text_in (view m 1)) (bytes_in (view m 2))) (here ∙ any_told m.descriptor is)
+          ∙ ap₂ (of_parts true) (url_is is u under ∙ ap url_in told) (bytes_are is b beside ∙ read)
+          ∙ ap (λ e. cond (e && true) (option_and_then (under_url (Some bytes)) (last_slash url)) None) expands
+          ∙ ap (option_and_then (under_url (Some bytes))) (ap last_slash whole ∙ found_slash front name lacks)
+          ∙ ap (λ o. option_map (expanded_as (front, name)) (option_and_then (λ u. option_and_then (inner u) (decoded u bytes)) o)) (type_found its_pool name d found)
+          ∙ ap (λ o. option_map (expanded_as (front, name)) (option_and_then (inner (name_at its_pool d.index)) o)) ((decodes d there bytes (view body)).1 (body, type, spelled, refl))
+          ∙ ap (λ (x : MessageDescriptor). option_map (expanded_as (front, name)) (inner (name_at its_pool x.index) (view body))) (sym type),
+    )
