@@ -2,7 +2,7 @@
 use Rattle.std.proofs.Common.{◌≡◌, ℕ, pos, List, [], ◌∷◌, inl, inr, ◌⊎◌, ◌&&◌, Bool, true, false, cond, Option, Some, None, refl, sym, ap, ◌∙◌, subst}
 use Rattle.std.specs.List.{Contains}
 use Rattle.std.specs.Option.{option_and_then, option_map, option_or}
-use Rattle.std.proofs.lemmas.Option.{option_and_then_some}
+use Rattle.std.proofs.lemmas.Option.{same_Some, option_and_then_some}
 use Rattle.descriptor_records.specs.Content.{Text, OptionsContent, FieldContent, FileContent}
 use Rattle.protobuf_model.specs.Types.{Name, Part, Key, one, many, keyed, Field}
 use Rattle.text_model.specs.Schemas.{HoldsOne}
@@ -17,7 +17,6 @@ use Rattle.schema_view.proofs.Orders.{when_true}
 use Rattle.schema_view.proofs.Road.{AreLinked}
 use Rattle.schema_view.proofs.Looking.{fields_declared}
 use Rattle.schema_view.proofs.Standing.{NamesField, found, message_there}
-use Rattle.growing_texts.proofs.Known.{some_is}
 use Rattle.growing_texts.proofs.Wanted.{mapped}
 use Rattle.growing_texts.proofs.FieldNames.{when_same}
 
@@ -79,7 +78,7 @@ module _ (fs : List FileContent) (l : AreLinked fs) where
       first_from (λ (f : FieldFacts). when (is_number (pos 2) f.number) (join t (text_of f.name))) m.fields name (sym (ap (option_and_then (named_in t 2)) at) ∙ is) in
       let d = fields_declared there.0 t m there.2 x.0 x.1 in
       let named : NamesField fs name d.0 = (there.0, record { name = join t (text_of x.0.name); body = of_field d.0 }, there.1, d.1, when_same (is_number (pos 2) x.0.number) (join t (text_of x.0.name)) name x.2, refl) in
-      let same : d.0 ≡ c = some_is d.0 c (sym (found fs l name d.0 named) ∙ here) in
+      let same : d.0 ≡ c = same_Some d.0 c (sym (found fs l name d.0 named) ∙ here) in
       let facts : facts_of c ≡ x.0 = ap facts_of (sym same) ∙ d.2 in
       ap (λ (x : FieldFacts). is_number (pos 3) x.label) facts
       ∙ single m.fields (sound.entry (says_entry m entry)) x.0 x.1 (when_true (is_number (pos 2) x.0.number) (join t (text_of x.0.name)) name x.2)

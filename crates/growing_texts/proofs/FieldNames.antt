@@ -5,7 +5,7 @@ use Rattle.std.specs.Option.{option_and_then, option_map}
 use Rattle.std.proofs.lemmas.Option.{none-some, option_and_then_some}
 use Rattle.descriptor_records.specs.Content.{Text, FieldContent, FileContent}
 use Rattle.protobuf_model.specs.Types.{Name}
-use Rattle.schema_view.specs.Declarations.{Body, FieldFacts, MessageFacts, facts_of, of_message, of_field, of_oneof, of_enum, of_value, of_service, of_method, of_extension}
+use Rattle.schema_view.specs.Declarations.{Body, FieldFacts, MessageFacts, facts_of, of_field, of_extension}
 use Rattle.schema_view.specs.Fields.{is_group}
 use Rattle.schema_view.specs.Files.{join, text_of}
 use Rattle.schema_view.specs.Lawful.{is_dotted}
@@ -116,13 +116,7 @@ module _ (fs gs : List FileContent) (l : AreLinked fs) (grow : Grows (view_of fs
 
   is_field : (b : Body) (x : FieldContent) → extension_in b ≡ Some x → field_in b ≡ Some x
   is_field (of_extension x) y e = e
-  is_field (of_message m) y e = absurd (none-some y e)
-  is_field (of_field f) y e = absurd (none-some y e)
-  is_field (of_oneof o) y e = absurd (none-some y e)
-  is_field (of_enum m) y e = absurd (none-some y e)
-  is_field (of_value m) y e = absurd (none-some y e)
-  is_field (of_service m) y e = absurd (none-some y e)
-  is_field (of_method m) y e = absurd (none-some y e)
+  is_field b y e = absurd (none-some y e)
 
   extension_stands : (n : Text) (b : Body) (x : FieldContent) → body_at V n ≡ Some b → extension_in b ≡ Some x → NamesField fs n x
   extension_stands n b x e is = by (V.declared n) refl e where

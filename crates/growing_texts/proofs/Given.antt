@@ -1,7 +1,7 @@
 -- Of a message that a text gives its type knows all.
 use Rattle.std.proofs.Common.{◌≡◌, ℕ, ℤ, nat_lt, Bool, true, false, cond, List, [], ◌∷◌, length, ◌^◌, Option, None, Some, refl, subst}
 use Rattle.std.specs.List.{AllByRecursion}
-use Rattle.std.proofs.lemmas.Option.{none-some, option_and_then_some}
+use Rattle.std.proofs.lemmas.Option.{same_Some, none-some, option_and_then_some}
 use Rattle.protox_lex.specs.Class.{Text}
 use Rattle.protobuf_model.specs.Values.{Single, text, blob, Content, single, message, Held, content, records, Message, nothing}
 use Rattle.protobuf_model.specs.Types.{Name, Kind, scalar, nested, Part, Label, one, many, keyed, Field, Types}
@@ -16,7 +16,7 @@ use Rattle.text_model.specs.Value.{wanted_in, wanted_of, scalar_content, message
 use Rattle.text_laws.proofs.Assigned.{field}
 use Rattle.known_messages.specs.KnownMessages.{KnowsContent, KnowsHeld, KnowsAll}
 use Rattle.growing_texts.specs.SaysAll.{HaveEntryValues}
-use Rattle.growing_texts.proofs.Known.{some_is, IsKnownIn, set_known, settled_known, add_all_known, add_one_known}
+use Rattle.growing_texts.proofs.Known.{IsKnownIn, set_known, settled_known, add_all_known, add_one_known}
 use Rattle.growing_texts.proofs.Wanted.{kind_of, wanted_is, mapped}
 
 -- what a text gives as a content of the kind
@@ -31,7 +31,7 @@ read_known types (nested frame u) (message m) h = h
 read_known types k c h = absurd h
 
 -- the value of an entry, or its default
-value_known : (types : Types) (part : Part) (o : Option ℕ) (e : Bool) (h : Held) → KnowsHeld types (Some (field part one o e)) h
+pub value_known : (types : Types) (part : Part) (o : Option ℕ) (e : Bool) (h : Held) → KnowsHeld types (Some (field part one o e)) h
     → KnowsContent types part.kind (value_of part h)
 value_known types part o e (content c) k = k
 value_known types part o e (records ps) k = by part.kind where
@@ -99,7 +99,7 @@ module _ (w : Schema) (entries : HaveEntryValues w) where
   hold_keeps t m x url body e =
       with_field_keeps t m x (Some 1) (λ n f. with_field (shape_of w t) (Some 2) (second n f)) (λ n f y has given.
       with_field_keeps t m y (Some 2) (second n f) (λ q g z also last all.
-      subst (KnowsAll w.types t) (some_is (both n f q g) z last) (settled_keeps t q g also (first n f) (blob body) (settled_keeps t n f has m (text url) all))) given) e where
+      subst (KnowsAll w.types t) (same_Some (both n f q g) z last) (settled_keeps t q g also (first n f) (blob body) (settled_keeps t n f has m (text url) all))) given) e where
         first : ℕ → Field → Message
         first n f = assign (w.types t) n (settle f.part (text url)) m
 

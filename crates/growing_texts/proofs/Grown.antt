@@ -48,7 +48,7 @@ module _ (old new : Schema) (declared : Name → Bool) (all : SaysAll old new de
     oneofs = λ t u p n q. subst (λ x. rival (old.types t) n q ≡ rival (new.types x) n q) p.1 (rival_same (old.types t) (new.types t) (oneof_same t p.0) n q);
   }
 
-  pub known_same : (t : Name) → IsThere t → (m : Message) → KnowsAll old.types t m → bytes_of new.types t m ≡ bytes_of old.types t m
+  known_same : (t : Name) → IsThere t → (m : Message) → KnowsAll old.types t m → bytes_of new.types t m ≡ bytes_of old.types t m
   known_same t there m k = known_alike old.types new.types Pair types_older t t (there, refl) m k
 
   -- ---- what the values of a field are read as

@@ -1,8 +1,8 @@
 -- A field that is given a value: its type knows all of the message, as before.
 use Rattle.std.proofs.Common.{◌≡◌, ℕ, ◌||◌, not, Bool, true, false, cond, List, [], ◌∷◌, ◌++◌, map, None, Some, refl, sym, subst}
 use Rattle.std.specs.List.{AllByRecursion}
-use Rattle.std.proofs.lemmas.Option.{none-some}
-use Rattle.protobuf_model.specs.Values.{Single, Content, single, message, list, dictionary, Contents, no_contents, more_contents, Entries, no_entries, more_entries, Held, content, records, Message, absent, list_of, chain_of, pairs_of, entries_of}
+use Rattle.std.proofs.lemmas.Option.{none-some, same_Some}
+use Rattle.protobuf_model.specs.Values.{Single, Content, single, message, list, dictionary, Contents, no_contents, more_contents, Entries, no_entries, more_entries, Held, content, Message, absent, list_of, chain_of, pairs_of, entries_of}
 use Rattle.protobuf_model.specs.Types.{Name, Kind, Part, Label, one, many, keyed, Field, Types}
 use Rattle.protobuf_model.specs.Scalars.{same}
 use Rattle.protobuf_model.specs.Meaning.{items, if_any, pairs, if_some, put_all}
@@ -11,9 +11,6 @@ use Rattle.text_model.specs.Value.{entry_of, is_set, has_rival, assign, settled,
 use Rattle.text_laws.proofs.Assigned.{assigned}
 use Rattle.text_laws.proofs.EntriesSuit.{all_put_all}
 use Rattle.known_messages.specs.KnownMessages.{KnowsContent, KnowsContents, KnowsEntries, KnowsHeld, KnowsAll}
-
-pub some_is : {X : Type 0} (x y : X) → Some x ≡ Some y → x ≡ y
-some_is x y e = cc
 
 module _ (types : Types) where
   -- ---- lists and maps
@@ -39,10 +36,7 @@ module _ (types : Types) where
 
   items_known : (f : Field) (h : Held) → KnowsHeld types (Some f) h → AllByRecursion (KnowsContent types f.part.kind) (items h)
   items_known f (content (list cs)) k = listed f.part.kind cs k
-  items_known f (content (single v)) k = tt
-  items_known f (content (message m)) k = tt
-  items_known f (content (dictionary es)) k = tt
-  items_known f (records ps) k = tt
+  items_known f h k = tt
 
   if_any_known : (f : Field) (cs : List Content) → AllByRecursion (KnowsContent types f.part.kind) cs → KnowsHeld types (Some f) (if_any cs)
   if_any_known f [] h = refl
@@ -50,10 +44,7 @@ module _ (types : Types) where
 
   pairs_known : (f : Field) (h : Held) → KnowsHeld types (Some f) h → AllByRecursion (IsKnownEntry f.part.kind) (pairs h)
   pairs_known f (content (dictionary es)) k = paired f.part.kind es k
-  pairs_known f (content (single v)) k = tt
-  pairs_known f (content (message m)) k = tt
-  pairs_known f (content (list cs)) k = tt
-  pairs_known f (records ps) k = tt
+  pairs_known f h k = tt
 
   if_some_known : (f : Field) (es : List (Single × Content)) → AllByRecursion (IsKnownEntry f.part.kind) es → KnowsHeld types (Some f) (if_some es)
   if_some_known f [] h = refl
@@ -80,7 +71,7 @@ module _ (types : Types) where
 
     pub set_known : (h : Held) → KnowsHeld types (Some f) h → Some (assign (types t) n h m) ≡ Some x → KnowsAll types t x
     set_known h k e =
-        subst (KnowsAll types t) (some_is (assign (types t) n h m) x e)
+        subst (KnowsAll types t) (same_Some (assign (types t) n h m) x e)
         (assigned (types t) n h m (λ q y. KnowsHeld types (types t q) y) (subst (λ o. KnowsHeld types o h) (sym has) k) (λ q. refl) all)
 
     pub add_all_known : (l : Label) (cs : List Content) → AllByRecursion (IsKnownIn f.part l) cs → add_all (types t) n f.part l m cs ≡ Some x

@@ -40,9 +40,7 @@ module _ (old new : Types) (Pair : Name → Name → Type 0) (before after : Nam
 
     set_kept : (k l : Kind) (b : Bool) (d : Single) (c : Content) → IsSet (part k b d) c → IsSet (part l b d) c
     set_kept k l b d (single v) h = h
-    set_kept k l b d (message m) h = h
-    set_kept k l b d (list cs) h = h
-    set_kept k l b d (dictionary es) h = h
+    set_kept k l b d c h = h
 
     field_kept : (k l : Kind) (b : Bool) (d : Single) (label : Label) (c : Content) → AreKinds Pair k l → IsFieldOf before (part k b d) label c
         → KnowsContent old k c → IsFieldOf after (part l b d) label c × KnowsContent new l c

@@ -29,7 +29,7 @@ run_nothing : (test : ℕ → Bool) (ns : List ℕ) → run (λ n. cond (test n)
 run_nothing test [] = refl
 run_nothing test (n ∷ ns) = ap (λ rs. rs ++ run (λ n. cond (test n) [] []) ns) (numbered_nothing (test n) n) ∙ run_nothing test ns
 
-pub nothing_written : (types : Types) (t : Name) → bytes_of types t nothing ≡ []
+nothing_written : (types : Types) (t : Name) → bytes_of types t nothing ≡ []
 nothing_written types t =
     ap (λ rs. records_bytes (records_of rs)) (ap (λ rs. rs ++ run (λ n. cond (is_declared (types t n)) [] []) field_numbers) (run_nothing (λ n. is_declared (types t n)) field_numbers)
     ∙ run_nothing (λ n. is_declared (types t n)) field_numbers)

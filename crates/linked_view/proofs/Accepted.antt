@@ -10,7 +10,7 @@ use Rattle.reflect_scope.specs.Known.{Known}
 use Rattle.reflect_scope.specs.declared.seen.Links.{Links}
 use Rattle.reflect_declarations.specs.declared.offsets.Offsets.{Offsets}
 use Rattle.reflect_declarations.specs.Tree.{MessageParts}
-use Rattle.reflect_declarations.specs.Declarations.{Declaration, Body, of_file, of_message, of_field, of_oneof, of_enum, of_enum_value, of_service, of_method, of_extension}
+use Rattle.reflect_declarations.specs.Declarations.{Declaration, Body, of_message}
 use Rattle.reflect_declarations.specs.Batches.{batch_declarations}
 use Rattle.reflect_known.specs.KnownNames.{known_of_files}
 use Rattle.reflect_names.specs.Faults.{batch_places}
@@ -84,7 +84,6 @@ module _ (t : LinkedTypes) (before : Offsets) (first : ℕ) (files : List FileDe
 
   tells_one : (d : Declaration) (b : Body) → d.body ≡ b → Among d ds
       → TellsOf (linked_says t) (record d { body = b })
-  tells_one d (of_file f) is h = tt
   tells_one d (of_message own) is h =
       let place = stands_in_batch before first files d own h is in
       let r = kept_at (messages_in ds) (map stored_ranges t.new.now.messages.items) place.0 own ranges
@@ -105,13 +104,7 @@ module _ (t : LinkedTypes) (before : Offsets) (first : ℕ) (files : List FileDe
         says_as : (o : Option StoredMessage) (m : StoredMessage) → o ≡ Some m
             → says o ≡ stored_ranges m
         says_as o m e = ap says e
-  tells_one d (of_field f) is h = tt
-  tells_one d (of_oneof o) is h = tt
-  tells_one d (of_enum k) is h = tt
-  tells_one d (of_enum_value v) is h = tt
-  tells_one d (of_service s) is h = tt
-  tells_one d (of_method m) is h = tt
-  tells_one d (of_extension x) is h = tt
+  tells_one d b is h = tt
 
   types_tell : AreTold t before first files
   types_tell = all_of (TellsOf (linked_says t)) ds (λ d h. tells_one d d.body refl h)
@@ -132,11 +125,11 @@ module _ (old new : PoolType) (ns : List FileDescriptorProto) (w : Linking) (is 
   none : name_faults w.indexes (known_of_files old.records) w.before w.first ns ≡ []
   none = ap (λ k. name_faults w.indexes k w.before w.first ns) (sym is.known) ∙ names
 
-  pub have_names : AreWellNamed (map file_view old.records) (map file_view ns)
+  have_names : AreWellNamed (map file_view old.records) (map file_view ns)
   have_names = named_to (batch_places ns w.first) w.indexes w.before w.first old.records ns
       (placed old ns w is has) has.named none
 
-  pub files_none : files_faults (batch_places ns w.first) w.indexes w.first ns ≡ []
+  files_none : files_faults (batch_places ns w.first) w.indexes w.first ns ≡ []
   files_none = (none_both (files_faults (batch_places ns w.first) w.indexes w.first ns) _ names).0
 
   abbrev pub links : List Links
@@ -169,7 +162,7 @@ module _ (old new : PoolType) (ns : List FileDescriptorProto) (w : Linking) (is 
   known_files = known_is old ns w is has have_names files_none links batch.means.linked sees
       batch.means.right.right
 
-  pub seen_all : AreSeenBy all_files w.first ns sees
+  seen_all : AreSeenBy all_files w.first ns sees
   seen_all = seen_by old ns w is has have_names files_none links batch.means.linked sees
       batch.means.right.right
 
@@ -181,7 +174,7 @@ module _ (old new : PoolType) (ns : List FileDescriptorProto) (w : Linking) (is 
   pub told : AreTold batch.types w.before w.first ns
   told = batch_told old ns w is batch.references batch.types batch.declared
 
-  pub refs : Each IsLabelled (map file_view ns) × Each IsTyped (map file_view ns)
+  refs : Each IsLabelled (map file_view ns) × Each IsTyped (map file_view ns)
       × AreMeant (outlines (map file_view all_files)) (map file_view ns)
   refs = referred_to all_files known known_all (batch_places ns w.first) sees
       w.before w.first ns seen_all have_names.complete
@@ -194,7 +187,7 @@ module _ (old new : PoolType) (ns : List FileDescriptorProto) (w : Linking) (is 
       ∙ batch_targets all_files known known_all indexes sees w.before
       w.first ns names_at seen_all refs.2
 
-  pub written_is : written batch.references (map file_view ns)
+  written_is : written batch.references (map file_view ns)
       ≡ all_linked (meanings all_files known known_all indexes sees)
       (map file_view ns)
   written_is =

@@ -18,7 +18,7 @@ use Rattle.reflect_scope.specs.declared.definition.Definition.{Definition}
 use Rattle.reflect_scope.specs.declared.definition.DefinitionKind.{DefinitionKind}
 use Rattle.reflect_scope.specs.declared.definition.DefinitionKind.TheVariants as kind
 use Rattle.reflect_scope.specs.declared.definition.ResolveNameFilter.TheVariants as filter
-use Rattle.reflect_declarations.specs.Declarations.{Declaration, Body, of_file, of_message, of_field, of_oneof, of_enum, of_enum_value, of_service, of_method, of_extension}
+use Rattle.reflect_declarations.specs.Declarations.{Declaration, Body, of_message, of_field, of_extension}
 use Rattle.reflect_walk.specs.MapEntries.{says_entry}
 use Rattle.reflect_declarations.specs.Tree.{MessageParts}
 use Rattle.schema_view.specs.Declarations as view
@@ -77,14 +77,7 @@ module _ (files : List FileDescriptorProto) (known : Known) (are : AreKnown file
         → known full ≡ Some d → KeepsForExtensions os full n
         → IsExtensionNumber g.types n (message_of (Some k))
     numbered (kind.Message i) full n d is knows h = tell.numbers i full n d knows is h
-    numbered (kind.Enum i) full n d is knows h = tt
-    numbered kind.Package full n d is knows h = tt
-    numbered kind.Field full n d is knows h = tt
-    numbered kind.Oneof full n d is knows h = tt
-    numbered kind.EnumValue full n d is knows h = tt
-    numbered (kind.Service i) full n d is knows h = tt
-    numbered kind.Method full n d is knows h = tt
-    numbered (kind.Extension i) full n d is knows h = tt
+    numbered k full n d is knows h = tt
 
     extension_number : (scope : Text) (o : Option (String Global)) (number : Option ℤ)
         → IsThere number → IsResolved view_of filter.Message scope o
@@ -116,14 +109,7 @@ module _ (files : List FileDescriptorProto) (known : Known) (are : AreKnown file
             is_message = is;
             is_entry = e;
           }))
-    newer_kind full d knows none (kind.Enum i) is = tt
-    newer_kind full d knows none kind.Package is = tt
-    newer_kind full d knows none kind.Field is = tt
-    newer_kind full d knows none kind.Oneof is = tt
-    newer_kind full d knows none kind.EnumValue is = tt
-    newer_kind full d knows none (kind.Service i) is = tt
-    newer_kind full d knows none kind.Method is = tt
-    newer_kind full d knows none (kind.Extension i) is = tt
+    newer_kind full d knows none k is = tt
 
     is_newer : (scope : Text) (type : Option ℤ) (o : Option (String Global))
         → IsResolved view_of filter.FieldType scope o
@@ -174,16 +160,10 @@ module _ (files : List FileDescriptorProto) (known : Known) (are : AreKnown file
         → ((m : MessageParts) → b ≡ of_message m → says_entry m.options ≡ true
         → is_one_map (g.uses d.index) ≡ true)
         → IsMetBy g (linked_values t) view_of (record d { body = b })
-    met_seen at d (of_file x) none h uses = tt
     met_seen at d (of_message m) none h uses = uses m refl
     met_seen at d (of_field x) none h uses =
         let own = h (view.of_field (field_view x)) refl in
         field_met d x (resolved_type at view_of d.path d.name x none) own.settled.defaults own.unused
-    met_seen at d (of_oneof o) none h uses = tt
-    met_seen at d (of_enum k) none h uses = tt
-    met_seen at d (of_enum_value x) none h uses = tt
-    met_seen at d (of_service s) none h uses = tt
-    met_seen at d (of_method m) none h uses = tt
     met_seen at d (of_extension x) none h uses =
         let own = h (view.of_extension (field_view x)) refl in
         let parts = none_both
@@ -195,6 +175,7 @@ module _ (files : List FileDescriptorProto) (known : Known) (are : AreKnown file
           field_met d x (resolved_type at view_of d.path d.name x parts.1) own.settled.defaults
               own.unused,
         )
+    met_seen at d b none h uses = tt
 
 -- no reference of a declaration is wrong where none is along all
 pub none_at : (at : ℕ → Places) (views : ℕ → View) (ds : List Declaration)

@@ -12,7 +12,7 @@ use Rattle.descriptor_records.specs.declared.file.FileDescriptorProto.{FileDescr
 use Rattle.descriptor_records.specs.declared.message.ReservedRange.{ReservedRange}
 use Rattle.reflect_declarations.specs.declared.offsets.Offsets.{Offsets}
 use Rattle.reflect_declarations.specs.Tree.{MessageParts}
-use Rattle.reflect_declarations.specs.Declarations.{Declaration, Body, of_file, of_message, of_field, of_oneof, of_enum, of_enum_value, of_service, of_method, of_extension, file_declarations, past_file}
+use Rattle.reflect_declarations.specs.Declarations.{Declaration, Body, of_file, of_message, of_field, of_extension, file_declarations, past_file}
 use Rattle.reflect_declarations.specs.Batches.{batch_declarations}
 use Rattle.reflect_names.specs.Faults.{Fault}
 use Rattle.reflect_names.specs.Names.{Places}
@@ -111,14 +111,7 @@ own_joined b (d ∷ xs) ys h k = (h.0, own_joined (proto3_behind d b) xs ys h.1 
 proto3_same : (d : Declaration) (body : Body) (b : Bool) → is_some (seen_body body) ≡ true
     → proto3_behind (record d { body = body }) b ≡ b
 proto3_same d (of_file f) b e = absurd (cc e)
-proto3_same d (of_message m) b e = refl
-proto3_same d (of_field f) b e = refl
-proto3_same d (of_oneof o) b e = refl
-proto3_same d (of_enum k) b e = refl
-proto3_same d (of_enum_value v) b e = refl
-proto3_same d (of_service s) b e = refl
-proto3_same d (of_method m) b e = refl
-proto3_same d (of_extension x) b e = refl
+proto3_same d body b e = refl
 
 abbrev AreDeclaredHere : List Declaration → Type 0
 AreDeclaredHere ds = AllByRecursion (λ (d : Declaration). is_some (seen_body d.body) ≡ true) ds
@@ -339,29 +332,15 @@ IsThereNumber k i f = IsThere f.number
 module _ (types : TypesSay) where
   ranged_one : (d : Declaration) (b : Body) → TellsOf types (record d { body = b })
       → HasFields (IsPlacedField types) (record d { body = b }) → IsRangedBody (seen_body b)
-  ranged_one d (of_file f) tells h = tt
   ranged_one d (of_message m) tells h = ranged_to types d.index m tells h
-  ranged_one d (of_field f) tells h = tt
-  ranged_one d (of_oneof o) tells h = tt
-  ranged_one d (of_enum k) tells h = tt
-  ranged_one d (of_enum_value v) tells h = tt
-  ranged_one d (of_service s) tells h = tt
-  ranged_one d (of_method m) tells h = tt
-  ranged_one d (of_extension x) tells h = tt
+  ranged_one d b tells h = tt
 
   one_ranged : (d : Declaration) (b : Body) → TellsOf types (record d { body = b })
       → IsCompleteBody (seen_body b) → HasFields IsThereNumber (record d { body = b })
       → IsRangedBody (seen_body b) → HasFields (IsPlacedField types) (record d { body = b })
-  one_ranged d (of_file f) tells complete numbers h = tt
   one_ranged d (of_message m) tells complete numbers h =
       ranged_from types d.index m tells complete numbers h
-  one_ranged d (of_field f) tells complete numbers h = tt
-  one_ranged d (of_oneof o) tells complete numbers h = tt
-  one_ranged d (of_enum k) tells complete numbers h = tt
-  one_ranged d (of_enum_value v) tells complete numbers h = tt
-  one_ranged d (of_service s) tells complete numbers h = tt
-  one_ranged d (of_method m) tells complete numbers h = tt
-  one_ranged d (of_extension x) tells complete numbers h = tt
+  one_ranged d b tells complete numbers h = tt
 
   ranged_all : (ds : List Declaration) → AllByRecursion (TellsOf types) ds
       → HaveFields (IsPlacedField types) ds
@@ -382,15 +361,8 @@ module _ (types : TypesSay) where
 -- what fields are complete with, each where it is met
 number_one : (k : ℕ) (d : Declaration) (b : Body) → IsCompleteBody (seen_body b)
     → fields.IsIn IsThereNumber k (record d { body = b })
-number_one k d (of_file f) h = tt
-number_one k d (of_message m) h = tt
 number_one k d (of_field f) h = h.number
-number_one k d (of_oneof o) h = tt
-number_one k d (of_enum e) h = tt
-number_one k d (of_enum_value v) h = tt
-number_one k d (of_service s) h = tt
-number_one k d (of_method m) h = tt
-number_one k d (of_extension x) h = tt
+number_one k d b h = tt
 
 numbers_in : (k : ℕ) (ds : List Declaration) → AreComplete ds → AreIn IsThereNumber k ds
 numbers_in k [] h = tt
@@ -405,15 +377,8 @@ IsTypedOne k i f = IsTypedField f
 
 typed_one : (k : ℕ) (d : Declaration) (b : Body) → IsTypedSeen (seen_body b)
     → fields.IsIn IsTypedOne k (record d { body = b })
-typed_one k d (of_file f) h = tt
-typed_one k d (of_message m) h = tt
 typed_one k d (of_field f) h = h
-typed_one k d (of_oneof o) h = tt
-typed_one k d (of_enum e) h = tt
-typed_one k d (of_enum_value v) h = tt
-typed_one k d (of_service s) h = tt
-typed_one k d (of_method m) h = tt
-typed_one k d (of_extension x) h = tt
+typed_one k d b h = tt
 
 typed_in : (k : ℕ) (ds : List Declaration)
     → AllByRecursion (λ (d : Declaration). IsTypedSeen (seen_body d.body)) ds → AreIn IsTypedOne k ds
@@ -422,15 +387,10 @@ typed_in k (d ∷ ds) h = (typed_one k d d.body h.0, typed_in (oneofs_behind d k
 
 one_typed : (d : Declaration) (b : Body) → IsTypedSeen (seen_body b)
     → HasFields IsTypedOne (record d { body = b }) → IsTypedBody b
-one_typed d (of_file f) h k = tt
 one_typed d (of_message m) h k = k
 one_typed d (of_field f) h k = h
-one_typed d (of_oneof o) h k = tt
-one_typed d (of_enum e) h k = tt
-one_typed d (of_enum_value v) h k = tt
-one_typed d (of_service s) h k = tt
-one_typed d (of_method m) h k = tt
 one_typed d (of_extension x) h k = h
+one_typed d b h k = tt
 
 all_typed : (ds : List Declaration)
     → AllByRecursion (λ (d : Declaration). IsTypedSeen (seen_body d.body)) ds

@@ -88,7 +88,7 @@ module _ (old : PoolType) (ns : List FileDescriptorProto) (w : Linking) (is : Is
       (files_none : files_faults (batch_places ns w.first) w.indexes w.first ns ≡ []) (links : List Links)
       (linked_as : AreLinked (with_declared w ns) ns links) (sees : ℕ → ℕ → Bool)
       (right : AreSeen links w.first (length ns) sees) where
-    pub views_of_all : map file_view all ≡ map file_view before ++ map file_view ns
+    views_of_all : map file_view all ≡ map file_view before ++ map file_view ns
     views_of_all = map-append file_view before ns
 
     pub all_named : AreWellNamed [] (map file_view all)
@@ -117,7 +117,7 @@ module _ (old : PoolType) (ns : List FileDescriptorProto) (w : Linking) (is : Is
         ≡ names_of_files old.files ++ names_of_files (map record_file ns)
     names_both = map-append (λ f. f.name) old.files (map record_file ns)
 
-    pub indexed : AreIndexed indexes (names_of_files (old.files ++ map record_file ns))
+    indexed : AreIndexed indexes (names_of_files (old.files ++ map record_file ns))
     indexed =
         subst (AreIndexed indexes) (sym names_both)
         (subst (λ n. AreIndexed (with_files w.indexes n ns)
@@ -129,7 +129,7 @@ module _ (old : PoolType) (ns : List FileDescriptorProto) (w : Linking) (is : Is
     files_all : old.files ++ map record_file ns ≡ map record_file all
     files_all = ap (λ fs. fs ++ map record_file ns) has.recorded.headers ∙ sym (map-append record_file before ns)
 
-    pub linked : map link_view links ≡ map (links_to indexes) all
+    linked : map link_view links ≡ map (links_to indexes) all
     linked =
         links_more w.indexes indexes old.files (old.files ++ map record_file ns) ns refl is.files indexed
         has.recorded.imports w.links links is.links linked_as
@@ -137,7 +137,7 @@ module _ (old : PoolType) (ns : List FileDescriptorProto) (w : Linking) (is : Is
         ∙ map_same (imported_places indexes) record_file (links_to indexes)
         (λ f. sym (links_as indexes f)) all
 
-    pub placed_all : IsPlaced indexes (map (λ (f : FileDescriptorProto). text_of f.name) all)
+    placed_all : IsPlaced indexes (map (λ (f : FileDescriptorProto). text_of f.name) all)
     placed_all =
         subst (IsPlaced indexes) (names_recorded all)
         (subst (λ fs. AreIndexed indexes (names_of_files fs)) files_all indexed)

@@ -1,5 +1,6 @@
 -- How often a list has a text, and what stands for something in a list of texts.
-use Rattle.std.proofs.Common.{◌≡◌, ◌≤◌, ◌+◌, ◌∙◌, ℕ, zero, suc, Bool, true, false, cond, List, [], ◌∷◌, ◌++◌, Option, Some, None, is_some, bytes_eq, slice_get, map, sum_by, ap, sym, subst, refl, arith}
+use Rattle.std.proofs.Common.{◌≡◌, ◌≤◌, ◌+◌, ◌∙◌, ℕ, zero, suc, Bool, true, false, cond, List, [], ◌∷◌, ◌++◌, Option, Some, None, is_some, bytes_eq, slice_get, map, sum_by, ap, sym, refl, arith}
+use Rattle.std.proofs.lemmas.Option.{same_Some}
 use Rattle.std.specs.List.{Contains}
 use Rattle.std.specs.Cmp.Lexicographic.{bytes_decides}
 use Rattle.std.proofs.lemmas.List.Sums.{sum_by-cons, sum_by-append}
@@ -68,11 +69,6 @@ times_there n xs h =
     let one = weighs (bytes_eq n n) (bytes_refl n) in
     omega (arith, some, one)
 
-pub there_times : (n : Text) (xs : List Text) → 1 ≤ times n xs → Contains xs n
-there_times n xs le =
-    let some = some_weight (λ (x : Text). cond (bytes_eq x n) 1 0) xs le in
-    subst (Contains xs) (bytes_same some.0 n (weighed (bytes_eq some.0 n) some.2)) some.1
-
 -- a text that has a place there, and has it alone
 place_there : (n : Text) (xs : List Text) (i : ℕ) → slice_get xs i ≡ Some n → 1 ≤ times n xs
 place_there n [] i e = absurd (cc e)
@@ -129,12 +125,9 @@ IsPlaced indexes names = (t : Text) (i : ℕ) → (indexes t ≡ Some i → slic
 pub placed_times : (indexes : Text → Option ℕ) (names : List Text) → IsPlaced indexes names
     → (n : Text) → one_if (is_some (indexes n)) ≡ times n names
 placed_times indexes names placed n = by (indexes n) refl where
-  same_some : (i j : ℕ) → Some i ≡ Some j → i ≡ j
-  same_some i j e = cc e
-
   le : times n names ≤ 1
   le = one_place n names (λ i j e f.
-      same_some i j (sym ((placed n i).1 e) ∙ (placed n j).1 f))
+      same_Some i j (sym ((placed n i).1 e) ∙ (placed n j).1 f))
 
   by : (o : Option ℕ) → indexes n ≡ o → one_if (is_some (indexes n)) ≡ times n names
   by (Some i) is =

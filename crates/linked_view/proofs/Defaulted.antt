@@ -2,7 +2,7 @@
 use Rattle.std.proofs.Common.{◌≡◌, ◌∙◌, ◌⊎◌, ◌+◌, ◌-◌, inl, inr, ℕ, zero, suc, Bool, true, false, cond, nat_lt, List, [], ◌∷◌, ◌++◌, Option, Some, None, map, length, slice_get, ap, sym, subst, refl, arith}
 use Rattle.std.specs.List.{Contains, flat_map}
 use Rattle.std.proofs.lemmas.List.{map-append}
-use Rattle.descriptor_records.specs.Content.{Text, EnumValueContent, FileContent, file_view}
+use Rattle.descriptor_records.specs.Content.{Text, EnumContent, EnumValueContent, FileContent, file_view}
 use Rattle.descriptor_records.specs.declared.file.FileDescriptorProto.{FileDescriptorProto}
 use Rattle.reflect_scope.specs.declared.definition.Definition.{Definition}
 use Rattle.reflect_scope.specs.declared.definition.DefinitionKind.TheVariants as kind
@@ -22,7 +22,7 @@ use Rattle.reflect_declarations.specs.Batches.{batch_declarations}
 use Rattle.reflect_build.specs.Accepted.{FaultlessBatch, FaultlessFiles}
 use Rattle.reflect_build.specs.Refusals.{Linking, with_declared, IsOf, new_files}
 use Rattle.linked_messages.specs.Kept.{IsKept}
-use Rattle.schema_view.specs.Declarations.{Body, of_message, of_field, of_oneof, of_enum, of_value, of_service, of_method, of_extension, declarations}
+use Rattle.schema_view.specs.Declarations.{Body, of_enum, declarations}
 use Rattle.schema_view.specs.Lawful.{outlines, SuitsEnum}
 use Rattle.schema_view.specs.Outlines.{value_name, sort_of, enum_sort, Head, head_of, Outline, outline_of, IsDeclared}
 use Rattle.schema_view.specs.References.{linked}
@@ -54,20 +54,25 @@ called_types =
     map_same (λ (v : NumberedValue). v.0) kept_value (λ (v : ValueType). v.name) (λ v. refl)
 
 -- what is declared as an enum with these values
-in_values : (n : Text) (b : Body) (p : NamedValues)
-    → Contains (values_in (record { name = n; body = b })) p
-    → (vs : List NumberedValue) × (sort_of b ≡ enum_sort (called vs)) × ((n, vs) ≡ p)
-in_values n (of_enum e) p h = elim (contains_cases (n, map numbered_value e.value) [] p h) [
-  | inl same ↦ (map numbered_value e.value, ap enum_sort (sym (called_values e.value)), same)
-  | inr none ↦ absurd (contains_none p none)
-]
-in_values n (of_message m) p h = absurd (contains_none p h)
-in_values n (of_field f) p h = absurd (contains_none p h)
-in_values n (of_oneof o) p h = absurd (contains_none p h)
-in_values n (of_value v) p h = absurd (contains_none p h)
-in_values n (of_service s) p h = absurd (contains_none p h)
-in_values n (of_method m) p h = absurd (contains_none p h)
-in_values n (of_extension x) p h = absurd (contains_none p h)
+pub record DeclaresValues (n : Text) (b : Body) (w : NamedValues) : Type 0 where
+  pub content : EnumContent
+  pub body : b ≡ of_enum content
+  pub name : n ≡ w.0
+  pub values : map numbered_value content.value ≡ w.1
+
+pub enum_declared : (n : Text) (b : Body) (w : NamedValues)
+    → Contains (values_in (record { name = n; body = b })) w → DeclaresValues n b w
+enum_declared n (of_enum e) w h =
+    elim (contains_cases (n, map numbered_value e.value) [] w h) [
+      | inl same ↦ record {
+        content = e;
+        body = refl;
+        name = ap (λ (v : NamedValues). v.0) same;
+        values = ap (λ (v : NamedValues). v.1) same;
+      }
+      | inr none ↦ absurd (contains_none w none)
+    ]
+enum_declared n b w h = absurd (contains_none w h)
 
 -- at a place of two lists, one behind the other
 pub at_both : {X : Type 0} (xs ys : List X) (i : ℕ) (x : X)
@@ -120,7 +125,7 @@ has_value (Some e) text (k, v, lt, at, name) = (
       (contains_map (λ (v : ValueType). v.name) (enum_of e).values v (k, lt, at)),
 )
 
-pub written_value : (p : PoolType) → IsIndexed p → TellsValues p → (i : ℕ) (e : EnumType)
+written_value : (p : PoolType) → IsIndexed p → TellsValues p → (i : ℕ) (e : EnumType)
     (full : Text) (text : Text) (file : ℕ) → slice_get p.enums i ≡ Some e
     → slice_get (names_of p enums) i ≡ Some (full, file)
     → Contains (map (λ (v : ValueType). v.name) e.values) text
@@ -135,18 +140,18 @@ written_value p index tells i e full text file at named has =
     (get_map kept_values p.enums i e at)) in
     let f = contains_flat_cases (λ f. flat_map values_in (declarations f)) fs (kept_values e) there in
     let d = contains_flat_cases values_in (declarations f.0) (kept_values e) f.2 in
-    let v = in_values d.0.name d.0.body (kept_values e) d.2 in (
-      called v.0,
+    let v = enum_declared d.0.name d.0.body (kept_values e) d.2 in (
+      map value_name v.content.value,
       (
         outline_of f.0,
         head_of d.0,
         contains_map outline_of fs f.0 f.1,
         contains_map head_of (declarations f.0) d.0 d.1,
-        ap (λ (n : NamedValues). n.0) v.2 ∙ name,
-        v.1,
+        v.name ∙ name,
+        ap sort_of v.body,
       ),
       subst (λ vs. Contains vs text)
-          (sym (ap (λ (n : NamedValues). called n.1) v.2 ∙ called_types e.values)) has,
+          (sym (sym (called_values v.content.value) ∙ ap called v.values ∙ called_types e.values)) has,
     )
 
 -- and back: an enum that is declared with values has them among what is written
@@ -164,13 +169,7 @@ values_there n (of_enum e) values is =
       there = contains_here (n, map numbered_value e.value) [];
       names = called_values e.value ∙ same;
     }
-values_there n (of_message m) values is = absurd (cc is)
-values_there n (of_field f) values is = absurd (cc is)
-values_there n (of_oneof o) values is = absurd (cc is)
-values_there n (of_value v) values is = absurd (cc is)
-values_there n (of_service s) values is = absurd (cc is)
-values_there n (of_method m) values is = absurd (cc is)
-values_there n (of_extension x) values is = absurd (cc is)
+values_there n b values is = absurd (cc is)
 
 values_written : (fs : List FileContent) (full : Text) (values : List Text)
     → IsDeclared (outlines fs) full (enum_sort values) → AreThere (written_values fs) full values

@@ -39,12 +39,6 @@ truth_to text _ h = absurd h
 
 says_to : (t : FieldType) (s : String Global) (d : DefaultText) → Says t (string_bytes s) d
     → IsDefault t (string_bytes s)
-says_to types.Int32 s d h = signed_to _ (string_bytes s) h.0
-says_to types.Sint32 s d h = signed_to _ (string_bytes s) h.0
-says_to types.Sfixed32 s d h = signed_to _ (string_bytes s) h.0
-says_to types.Int64 s d h = signed_to _ (string_bytes s) h.0
-says_to types.Sint64 s d h = signed_to _ (string_bytes s) h.0
-says_to types.Sfixed64 s d h = signed_to _ (string_bytes s) h.0
 says_to types.Uint32 s d h = unsigned_to 32 (string_bytes s) h.0
 says_to types.Fixed32 s d h = unsigned_to 32 (string_bytes s) h.0
 says_to types.Uint64 s d h = unsigned_to 64 (string_bytes s) h.0
@@ -57,14 +51,9 @@ says_to types.Double s d h = tt
 says_to types.Group s d h = absurd h
 says_to types.Message s d h = absurd h
 says_to types.Enum s d h = absurd h
+says_to t s d h = signed_to _ (string_bytes s) h.0
 
 pub says_from : (t : FieldType) (text : List ℕ) → IsDefault t text → (d : DefaultText) × Says t text d
-says_from types.Int32 text h = (_, (signed_from _ text h, refl))
-says_from types.Sint32 text h = (_, (signed_from _ text h, refl))
-says_from types.Sfixed32 text h = (_, (signed_from _ text h, refl))
-says_from types.Int64 text h = (_, (signed_from _ text h, refl))
-says_from types.Sint64 text h = (_, (signed_from _ text h, refl))
-says_from types.Sfixed64 text h = (_, (signed_from _ text h, refl))
 says_from types.Uint32 text h = (_, (unsigned_from 32 text h, refl))
 says_from types.Fixed32 text h = (_, (unsigned_from 32 text h, refl))
 says_from types.Uint64 text h = (_, (unsigned_from 64 text h, refl))
@@ -78,6 +67,7 @@ says_from types.Double text h = (says.Float, refl)
 says_from types.Group text h = absurd h
 says_from types.Message text h = absurd h
 says_from types.Enum text h = absurd h
+says_from t text h = (_, (signed_from _ text h, refl))
 
 pub suited_to : (z : ℤ) (s : String Global) → IsScalarSuited (Some z) (string_bytes s) true
     → IsScalarDefault z (string_bytes s)

@@ -22,7 +22,7 @@ use Rattle.reflect_tables.specs.Types.{PoolType, ExtensionType}
 use Rattle.reflect_tables.specs.Views.{extension_of}
 use Rattle.reflect_tables.specs.declared.stored.StoredExtension.{StoredExtension}
 use Rattle.reflect_tables.proofs.Founds.{front}
-use Rattle.schema_view.specs.Declarations.{declarations, Body, of_message, of_field, of_oneof, of_enum, of_value, of_service, of_method, of_extension}
+use Rattle.schema_view.specs.Declarations.{declarations, Body, of_extension}
 use Rattle.schema_view.specs.Lawful.{Key}
 use Rattle.schema_view.specs.Rules.{IsFieldNumber, IsSound}
 use Rattle.schema_view.specs.Files.{is_proto3}
@@ -50,13 +50,7 @@ number_in n proto3 (of_extension x) h k i = elim (contains_cases (x.extendee, x.
       (m.0, sym (ap (λ (w : WrittenKey). w.1) same) ∙ z.1 ∙ ap Some m.1))
   | inr none ↦ absurd (contains_none k none)
 ]
-number_in n proto3 (of_message m) h k i = absurd (contains_none k i)
-number_in n proto3 (of_field f) h k i = absurd (contains_none k i)
-number_in n proto3 (of_oneof o) h k i = absurd (contains_none k i)
-number_in n proto3 (of_enum e) h k i = absurd (contains_none k i)
-number_in n proto3 (of_value v) h k i = absurd (contains_none k i)
-number_in n proto3 (of_service s) h k i = absurd (contains_none k i)
-number_in n proto3 (of_method m) h k i = absurd (contains_none k i)
+number_in n proto3 b h k i = absurd (contains_none k i)
 
 number_written : (fs : List FileContent) → AreLinked fs → (k : WrittenKey)
     → Contains (written_keys fs) k → (m : ℕ) × (k.1 ≡ Some (pos m))
@@ -98,7 +92,7 @@ module _ (names : List FullName) (fs : List FileContent) (linked : AreLinked fs)
         written = v.1 ∙ ap Some same;
       }
 
-  pub keys_apart : (i j : ℕ) (x y : ExtensionType) → slice_get es i ≡ Some x
+  keys_apart : (i j : ℕ) (x y : ExtensionType) → slice_get es i ≡ Some x
       → slice_get es j ≡ Some y → key_of x ≡ key_of y → i ≡ j
   keys_apart i j x y e f same =
       let a = written_at i x e in

@@ -14,7 +14,7 @@ use Rattle.reflect_declarations.specs.Batches.{batch_declarations}
 use Rattle.reflect_build.specs.Accepted.{FaultlessBatch}
 use Rattle.reflect_build.specs.Refusals.{Linking, with_declared, IsOf, new_files}
 use Rattle.linked_messages.specs.Kept.{IsKept}
-use Rattle.schema_view.specs.Declarations.{Body, of_message, of_field, of_oneof, of_enum, of_value, of_service, of_method, of_extension, Declaration, declarations}
+use Rattle.schema_view.specs.Declarations.{Body, of_message, Declaration, declarations}
 use Rattle.schema_view.specs.References.{linked}
 use Rattle.schema_view.proofs.Lists.{contains_map, contains_map_cases}
 use Rattle.linked_view.specs.Alone.{IsWellNamed, AreLawfulAlone}
@@ -59,13 +59,7 @@ use Rattle.reflect_declarations.specs.Declarations.{file_declaration}
 message_stays : (names : Reference → Target) (n : Text) (b : Body) (m : view.MessageFacts)
     → rename_body names n b ≡ of_message m → b ≡ of_message m
 message_stays names n (of_message x) m e = e
-message_stays names n (of_field f) m e = absurd (cc e)
-message_stays names n (of_oneof o) m e = absurd (cc e)
-message_stays names n (of_enum k) m e = absurd (cc e)
-message_stays names n (of_value v) m e = absurd (cc e)
-message_stays names n (of_service s) m e = absurd (cc e)
-message_stays names n (of_method x) m e = absurd (cc e)
-message_stays names n (of_extension x) m e = absurd (cc e)
+message_stays names n b m e = absurd (cc e)
 
 -- what is seen as a message is one
 message_seen : (b : walk.Body) (m : view.MessageFacts) → seen_body b ≡ Some (of_message m)
@@ -73,14 +67,7 @@ message_seen : (b : walk.Body) (m : view.MessageFacts) → seen_body b ≡ Some 
 message_seen (walk.of_message own) m e =
     let whole : view.of_message (facts_in own) ≡ of_message m = cc e in
     let same : facts_in own ≡ m = cc whole in (own, refl, same)
-message_seen (walk.of_file f) m e = absurd (cc e)
-message_seen (walk.of_field f) m e = absurd (cc e)
-message_seen (walk.of_oneof o) m e = absurd (cc e)
-message_seen (walk.of_enum k) m e = absurd (cc e)
-message_seen (walk.of_enum_value v) m e = absurd (cc e)
-message_seen (walk.of_service s) m e = absurd (cc e)
-message_seen (walk.of_method x) m e = absurd (cc e)
-message_seen (walk.of_extension x) m e = absurd (cc e)
+message_seen b m e = absurd (cc e)
 
 -- a message of a batch, linked, is that of a declaration along it
 pub record IsAlong (ds : List walk.Declaration) (n : Text) (m : view.MessageFacts) : Type 0 where

@@ -1,5 +1,6 @@
 -- An enum has no fault exactly where its first value and its numbers are as they should be.
 use Rattle.std.proofs.Common.{◌≡◌, ◌∙◌, inl, inr, ℤ, pos, Bool, true, false, cond, not, ◌&&◌, List, [], ◌∷◌, Option, Some, None, option_map, map, ap, sym, refl, arith}
+use Rattle.std.proofs.lemmas.Option.{same_Some}
 use Rattle.std.proofs.lemmas.Bool.Decides.{Decides-int_eq}
 use Rattle.descriptor_records.specs.Content.{EnumValueContent, OptionsContent, options_view, enum_value_view, enum_view}
 use Rattle.descriptor_records.specs.declared.enums.EnumDescriptorProto.{EnumDescriptorProto}
@@ -20,18 +21,18 @@ pub said : (o : Option Bool) → is_true o ≡ true → o ≡ Some true
 said None e = absurd (cc e)
 said (Some b) e = ap Some e
 
-pub aliases_to : (o : Option Options) → allows_aliases o ≡ true → AllowsAliases (option_map options_view o)
+aliases_to : (o : Option Options) → allows_aliases o ≡ true → AllowsAliases (option_map options_view o)
 aliases_to None e = absurd (cc e)
 aliases_to (Some o) e = (options_view o, refl, said o.allow_alias e)
 
-pub aliases_from : (o : Option Options) → AllowsAliases (option_map options_view o) → allows_aliases o ≡ true
+-- what the content of options says to be true, options say
+pub said_back : (get : OptionsContent → Option Bool) (o : Options) (x : OptionsContent)
+    → Some (options_view o) ≡ Some x → get x ≡ Some true → is_true (get (options_view o)) ≡ true
+said_back get o x e is = ap is_true (ap get (same_Some (options_view o) x e) ∙ is)
+
+aliases_from : (o : Option Options) → AllowsAliases (option_map options_view o) → allows_aliases o ≡ true
 aliases_from None (x, e, is) = absurd (cc e)
-aliases_from (Some o) (x, e, is) =
-    let same : o.allow_alias ≡ x.allow_alias = ap allowed e in
-    ap is_true (same ∙ is) where
-      allowed : Option OptionsContent → Option Bool
-      allowed None = None
-      allowed (Some y) = y.allow_alias
+aliases_from (Some o) (x, e, is) = said_back (λ y. y.allow_alias) o x e is
 
 pub equal_to : (o : Option ℤ) (n : ℤ) → is_equal o n ≡ true → o ≡ Some n
 equal_to None n e = absurd (cc e)

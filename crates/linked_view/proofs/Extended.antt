@@ -11,7 +11,7 @@ use Rattle.reflect_pool.specs.Linked.{key_of}
 use Rattle.reflect_tables.specs.Names.{FullName, names_of, messages}
 use Rattle.reflect_tables.specs.Types.{PoolType, ExtensionType}
 use Rattle.reflect_index.proofs.Among.{get_map}
-use Rattle.schema_view.specs.Declarations.{declarations, Body, of_message, of_field, of_oneof, of_enum, of_value, of_service, of_method, of_extension}
+use Rattle.schema_view.specs.Declarations.{declarations, Body, of_extension}
 use Rattle.schema_view.specs.Lawful.{Key, is_dotted, has_key, times_by}
 use Rattle.schema_view.specs.Rules.{is_number}
 use Rattle.schema_view.proofs.Lists.{sum_same, sum_some}
@@ -29,7 +29,7 @@ zip_at R (z ∷ xs) (y ∷ ys) zero x h e =
 zip_at R (z ∷ xs) (y ∷ ys) (suc i) x h e = zip_at R xs ys i x h.1 e
 
 -- what passes a test at one place alone passes it once
-pub once : {X : Type 0} (test : X → Bool) (xs : List X)
+once : {X : Type 0} (test : X → Bool) (xs : List X)
     → ((i j : ℕ) (x y : X) → slice_get xs i ≡ Some x → slice_get xs j ≡ Some y → test x ≡ true
     → test y ≡ true → i ≡ j)
     → sum_by (λ x. one_if (test x)) xs ≤ 1
@@ -110,15 +110,9 @@ module _ (k : Key) where
 
   body_weight : (n : Text) (b : Body) → sum_by weight (keys_of (record { name = n; body = b }))
       ≡ cond (has_key k b) 1 0
-  body_weight n (of_message m) = refl
-  body_weight n (of_field f) = refl
-  body_weight n (of_oneof o) = refl
-  body_weight n (of_enum e) = refl
-  body_weight n (of_value v) = refl
-  body_weight n (of_service s) = refl
-  body_weight n (of_method m) = refl
   body_weight n (of_extension x) =
       let sum = sum_by-cons weight (x.extendee, x.number) [] in omega (arith, sum)
+  body_weight n b = refl
 
   -- a key is written as often as declarations have it
   pub times_written : (fs : List FileContent) → times_by (has_key k) fs

@@ -1,5 +1,5 @@
 -- The entries of a batch's extensions are those of the records as they are linked.
-use Rattle.std.proofs.Common.{◌≡◌, ◌∙◌, ℕ, Bool, List, [], ◌∷◌, ◌++◌, Option, Some, None, String, Global, string_bytes, map, slice_get, cond, append_assoc, ap, sym, subst, refl}
+use Rattle.std.proofs.Common.{◌≡◌, ◌∙◌, ℕ, Bool, List, [], ◌∷◌, ◌++◌, Option, Some, None, String, Global, string_bytes, map, slice_get, cond, ap, sym, subst, refl}
 use Rattle.std.specs.List.{AllZip}
 use Rattle.descriptor_records.specs.Content.{Text, FileContent, text_view, file_view}
 use Rattle.descriptor_records.specs.declared.file.FileDescriptorProto.{FileDescriptorProto}
@@ -12,10 +12,9 @@ use Rattle.reflect_declarations.specs.declared.offsets.Offsets.{Offsets}
 use Rattle.reflect_declarations.specs.Declarations.{Declaration, Body, of_file, of_message, of_field, of_oneof, of_enum, of_enum_value, of_service, of_method, of_extension}
 use Rattle.reflect_declarations.specs.Batches.{batch_declarations}
 use Rattle.reflect_names.specs.Names.{Places}
-use Rattle.reflect_names.specs.References.{View, Target, meaning_of, kind_meant, name_targets, targets_of, reference_faults, reference_faults_at}
+use Rattle.reflect_names.specs.References.{View, Target, meaning_of, kind_meant, targets_of, reference_faults_at}
 use Rattle.reflect_names.specs.ReferencePass.{views_of, targets_along, reference_faults_along}
 use Rattle.reflect_names.specs.ReferenceSteps.{target_of}
-use Rattle.reflect_references.specs.Meanings.{behind, rest_behind}
 use Rattle.reflect_index.specs.Along.{AtHand, Met, along, all_of, hand_behind, met, is_extension}
 use Rattle.reflect_index.specs.Entries.{IsExtensionOf}
 use Rattle.reflect_tables.specs.Names.{FullName, AreFound, found, place_in, place_of, with_file, messages}
@@ -25,7 +24,7 @@ use Rattle.schema_view.specs.Lawful.{all_linked}
 use Rattle.linked_view.specs.AtHand.{kind_by}
 use Rattle.linked_view.specs.Extended.{WrittenKey, keys_of, written_keys, HasWritten}
 use Rattle.linked_view.specs.Known.{AreKnown}
-use Rattle.linked_view.proofs.AtHand.{at_hand, resolved_one, resolved_type}
+use Rattle.linked_view.proofs.AtHand.{extension_at_hand, left_behind}
 use Rattle.linked_view.proofs.Faults.{none_both}
 use Rattle.linked_view.proofs.Linked.{found_by, meanings, AreAt}
 use Rattle.linked_view.proofs.Listed.{listed_along, names, see, listed_seen, batch_listed}
@@ -91,41 +90,6 @@ module _ (full_names : List FullName) (known : Known)
     by wrong_kind f = absurd (cc (sym (ap kind_meant f) ∙ e))
     by (shadowed full) f = absurd (cc (sym (ap kind_meant f) ∙ e))
 
-  -- the references behind a declaration
-  pub left_behind : (h : List _) (d : Declaration) (b : Body) (more : List Target)
-      → reference_faults_at (at d.file) (views d.file) (record d { body = b }) ≡ []
-      → map target_of h ≡ targets_of (views d.file) (record d { body = b }) ++ more
-      → map target_of (rest_behind (record d { body = b }) h) ≡ more
-  left_behind h d (of_file f) more none e = e
-  left_behind h d (of_message m) more none e = e
-  left_behind h d (of_field f) more none e =
-      (at_hand (views d.file) filter.FieldType d.name f.type_name h more
-      (resolved_type (at d.file) (views d.file) d.path d.name f none) e).left
-  left_behind h d (of_oneof o) more none e = e
-  left_behind h d (of_enum k) more none e = e
-  left_behind h d (of_enum_value x) more none e = e
-  left_behind h d (of_service s) more none e = e
-  left_behind h d (of_method m) more none e =
-      let v = views d.file in
-      let parts = none_both (reference_faults (at d.file) v filter.Message d.path d.name _ m.input_type) _
-      none in
-      let second = name_targets v filter.Message d.name m.output_type in
-      let first = at_hand v filter.Message d.name m.input_type h (second ++ more)
-      (resolved_one (at d.file) v d.path d.name filter.Message _ m.input_type parts.0)
-      (e ∙ append_assoc (name_targets v filter.Message d.name m.input_type) second more) in
-      (at_hand v filter.Message d.name m.output_type (behind m.input_type h) more
-      (resolved_one (at d.file) v d.path d.name filter.Message _ m.output_type parts.1) first.left).left
-  left_behind h d (of_extension x) more none e =
-      let v = views d.file in
-      let parts = none_both (reference_faults (at d.file) v filter.Message d.path d.name _ x.extendee) _
-      none in
-      let second = name_targets v filter.FieldType d.name x.type_name in
-      let first = at_hand v filter.Message d.name x.extendee h (second ++ more)
-      (resolved_one (at d.file) v d.path d.name filter.Message _ x.extendee parts.0)
-      (e ∙ append_assoc (name_targets v filter.Message d.name x.extendee) second more) in
-      (at_hand v filter.FieldType d.name x.type_name (behind x.extendee h) more
-      (resolved_type (at d.file) v d.path d.name x parts.1) first.left).left
-
   abbrev Zipped : List WrittenKey → List ExtensionType → Type 0
   Zipped ks es = AllZip (HasWritten full_names) ks es
 
@@ -138,24 +102,11 @@ module _ (full_names : List FullName) (known : Known)
       → AllZip IsExtensionOf
       (cond (is_extension b) (met h (record d { body = b }) ∷ ms) ms) es
       → Zipped (keys_by (views d.file) (record d { body = b }) ++ ks) es
-  one_zipped h d (of_file f) more ms ks es none e later z = later es z
-  one_zipped h d (of_message m) more ms ks es none e later z = later es z
-  one_zipped h d (of_field f) more ms ks es none e later z = later es z
-  one_zipped h d (of_oneof o) more ms ks es none e later z = later es z
-  one_zipped h d (of_enum k) more ms ks es none e later z = later es z
-  one_zipped h d (of_enum_value x) more ms ks es none e later z = later es z
-  one_zipped h d (of_service s) more ms ks es none e later z = later es z
-  one_zipped h d (of_method m) more ms ks es none e later z = later es z
   one_zipped h d (of_extension x) more ms ks [] none e later z = absurd z
   one_zipped h d (of_extension x) more ms ks (y ∷ es) none e later z =
       let v = views d.file in
-      let parts = none_both (reference_faults (at d.file) v filter.Message d.path d.name _ x.extendee) _
-      none in
-      let second = name_targets v filter.FieldType d.name x.type_name in
-      let first = at_hand v filter.Message d.name x.extendee h.rest (second ++ more)
-      (resolved_one (at d.file) v d.path d.name filter.Message _ x.extendee parts.0)
-      (e ∙ append_assoc (name_targets v filter.Message d.name x.extendee) second more) in
-      let named = named_by v refl d.name x.extendee y.extendee (sym first.kind ∙ z.0.extendee) in (
+      let hands = extension_at_hand (at d.file) v d x h.rest more none e in
+      let named = named_by v refl d.name x.extendee y.extendee (sym hands.0.kind ∙ z.0.extendee) in (
         record {
           full = named.full;
           file = named.file;
@@ -165,8 +116,9 @@ module _ (full_names : List FullName) (known : Known)
         },
         later es z.1,
       )
+  one_zipped h d b more ms ks es none e later z = later es z
 
-  pub zipped : (h : AtHand) (ds : List Declaration) (es : List ExtensionType)
+  zipped : (h : AtHand) (ds : List Declaration) (es : List ExtensionType)
       → reference_faults_along at views ds ≡ []
       → map target_of h.rest ≡ targets_along views ds
       → AllZip IsExtensionOf (all_of is_extension (along h ds)) es
@@ -177,7 +129,7 @@ module _ (full_names : List FullName) (known : Known)
       let parts = none_both (reference_faults_at (at d.file) (views d.file) d)
       (reference_faults_along at views ds) none in
       let more = targets_along views ds in
-      let left = left_behind h.rest d d.body more parts.0 e in
+      let left = left_behind views at h.rest d d.body more parts.0 e in
       one_zipped h d d.body more (all_of is_extension (along (hand_behind h d) ds))
       (keys_along views ds) es parts.0 e
       (λ xs k. zipped (hand_behind h d) ds xs parts.1 left k) z
@@ -194,18 +146,11 @@ module _ (files : List FileDescriptorProto) (known : Known) (are : AreKnown file
   body_keys : (f : FileContent) (d : Declaration) (b : Body)
       → keys_by (see keys_by keys_of files known are indexes sees f) (record d { body = b })
       ≡ listed_seen keys_by keys_of files known are indexes sees f (seen (record d { body = b }))
-  body_keys f d (of_file x) = refl
-  body_keys f d (of_message m) = refl
-  body_keys f d (of_field x) = refl
-  body_keys f d (of_oneof o) = refl
-  body_keys f d (of_enum k) = refl
-  body_keys f d (of_enum_value x) = refl
-  body_keys f d (of_service s) = refl
-  body_keys f d (of_method m) = refl
   body_keys f d (of_extension x) =
       ap (λ (o : Option Text). (o, x.number) ∷ []) (name_seen f d.name x.extendee)
+  body_keys f d b = refl
 
-  pub batch_keys : (o : Offsets) (i : ℕ) (fs : List FileDescriptorProto)
+  batch_keys : (o : Offsets) (i : ℕ) (fs : List FileDescriptorProto)
       → AreAt files known are indexes sees i fs
       → keys_along (views_of known sees) (batch_declarations o i fs)
       ≡ written_keys (all_linked (meanings files known are indexes sees) (map file_view fs))

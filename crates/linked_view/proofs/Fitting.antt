@@ -9,7 +9,7 @@ use Rattle.descriptor_records.specs.Content.{EnumContent, EnumValueContent, File
 use Rattle.descriptor_records.specs.declared.enums.EnumDescriptorProto.{EnumDescriptorProto}
 use Rattle.descriptor_records.specs.declared.file.FileDescriptorProto.{FileDescriptorProto}
 use Rattle.reflect_declarations.specs.declared.offsets.Offsets.{Offsets}
-use Rattle.reflect_declarations.specs.Declarations.{Declaration, Body, of_file, of_message, of_field, of_oneof, of_enum, of_enum_value, of_service, of_method, of_extension, file_declaration}
+use Rattle.reflect_declarations.specs.Declarations.{Declaration, Body, of_enum, file_declaration}
 use Rattle.reflect_declarations.specs.Batches.{batch_declarations}
 use Rattle.reflect_index.specs.OfDeclarations.{NamedNumber, stored_value, stored_values, declared_value, declared_values, enum_in, enums_in}
 use Rattle.reflect_tables.specs.Types.{PoolType, ValueType}
@@ -61,15 +61,8 @@ enum_there (x ∷ ds) d e h is = elim (contains_cases x ds d h) [
 -- an enum of the content is one of the record
 enum_of_body : (b : Body) (e : EnumContent) → seen_body b ≡ Some (view.of_enum e)
     → (x : EnumDescriptorProto) × (b ≡ of_enum x) × (enum_view x ≡ e)
-enum_of_body (of_file f) e is = absurd (cc is)
-enum_of_body (of_message m) e is = absurd (cc is)
-enum_of_body (of_field f) e is = absurd (cc is)
-enum_of_body (of_oneof o) e is = absurd (cc is)
 enum_of_body (of_enum x) e is = (x, refl, cc is)
-enum_of_body (of_enum_value v) e is = absurd (cc is)
-enum_of_body (of_service s) e is = absurd (cc is)
-enum_of_body (of_method m) e is = absurd (cc is)
-enum_of_body (of_extension x) e is = absurd (cc is)
+enum_of_body b e is = absurd (cc is)
 
 module _ (o : Offsets) (first : ℕ) (files : List FileDescriptorProto)
     (fit : AllByRecursion (λ (e : EnumDescriptorProto). AllFit (declared_values e))
@@ -105,14 +98,8 @@ module _ (o : Offsets) (first : ℕ) (files : List FileDescriptorProto)
 
   fitting_one : (c : FileContent) (d : view.Declaration) → Contains (map file_view files) c
       → Contains (view.declarations c) d → (b : view.Body) → d.body ≡ b → IsFitting b
-  fitting_one c d i j (view.of_message m) is = tt
-  fitting_one c d i j (view.of_field f) is = tt
-  fitting_one c d i j (view.of_oneof x) is = tt
-  fitting_one c d i j (view.of_enum e) is = tt
   fitting_one c d i j (view.of_value v) is = value_fits c d v i j is
-  fitting_one c d i j (view.of_service s) is = tt
-  fitting_one c d i j (view.of_method m) is = tt
-  fitting_one c d i j (view.of_extension x) is = tt
+  fitting_one c d i j b is = tt
 
   files_fit : Each IsFitting (map file_view files)
   files_fit c d i j = fitting_one c d i j d.body refl

@@ -36,25 +36,11 @@ found_place s (Some d) i file e = (d, refl, by (place_of s d.kind) refl) where
 pub message_place : (k : DefinitionKind) (i : ℕ) → place_of messages k ≡ Some i
     → k ≡ kind.Message i
 message_place (kind.Message j) i e = let same : j ≡ i = cc e in ap kind.Message same
-message_place kind.Package i e = absurd (cc e)
-message_place kind.Field i e = absurd (cc e)
-message_place kind.Oneof i e = absurd (cc e)
-message_place (kind.Enum j) i e = absurd (cc e)
-message_place kind.EnumValue i e = absurd (cc e)
-message_place (kind.Service j) i e = absurd (cc e)
-message_place kind.Method i e = absurd (cc e)
-message_place (kind.Extension j) i e = absurd (cc e)
+message_place k i e = absurd (cc e)
 
 pub enum_place : (k : DefinitionKind) (i : ℕ) → place_of enums k ≡ Some i → k ≡ kind.Enum i
 enum_place (kind.Enum j) i e = let same : j ≡ i = cc e in ap kind.Enum same
-enum_place kind.Package i e = absurd (cc e)
-enum_place (kind.Message j) i e = absurd (cc e)
-enum_place kind.Field i e = absurd (cc e)
-enum_place kind.Oneof i e = absurd (cc e)
-enum_place kind.EnumValue i e = absurd (cc e)
-enum_place (kind.Service j) i e = absurd (cc e)
-enum_place kind.Method i e = absurd (cc e)
-enum_place (kind.Extension j) i e = absurd (cc e)
+enum_place k i e = absurd (cc e)
 
 up_to : {Y : Type 0} (name : Y → FullName) (P : Y → Type 0) (n : ℕ)
     → ((y : Y) → P y → (name y).1 ≤ n) → (ys : List Y) → AllByRecursion P ys

@@ -7,7 +7,7 @@ use Rattle.reflect_scope.specs.declared.definition.Definition.{Definition}
 use Rattle.reflect_scope.specs.declared.definition.DefinitionKind.TheVariants as kind
 use Rattle.reflect_scope.specs.Means.{scopes}
 use Rattle.reflect_declarations.specs.Tree.{MessageParts, text_of}
-use Rattle.reflect_declarations.specs.Declarations.{Declaration, Body, of_file, of_message, of_field, of_oneof, of_enum, of_enum_value, of_service, of_method, of_extension, file_declaration, file_declarations}
+use Rattle.reflect_declarations.specs.Declarations.{Declaration, Body, of_message, file_declaration, file_declarations}
 use Rattle.reflect_declarations.specs.Batches.{batch_declarations}
 use Rattle.reflect_known.specs.KnownNames.{kind_of, definition_of, nothing_before, known_of_files}
 use Rattle.reflect_index.specs.OfDeclarations.{messages_in}
@@ -33,14 +33,7 @@ message_kind : (x : Declaration) (b : Body) (i : ℕ)
     → kind_of (record x { body = b }) ≡ kind.Message i
     → (own : MessageParts) × (b ≡ of_message own) × (x.index ≡ i)
 message_kind x (of_message m) i e = (m, refl, cc e)
-message_kind x (of_file f) i e = absurd (cc e)
-message_kind x (of_field f) i e = absurd (cc e)
-message_kind x (of_oneof o) i e = absurd (cc e)
-message_kind x (of_enum k) i e = absurd (cc e)
-message_kind x (of_enum_value v) i e = absurd (cc e)
-message_kind x (of_service s) i e = absurd (cc e)
-message_kind x (of_method m) i e = absurd (cc e)
-message_kind x (of_extension y) i e = absurd (cc e)
+message_kind x b i e = absurd (cc e)
 
 module _ (files : List FileDescriptorProto) (named : AreWellNamed [] (map file_view files)) where
   pub record IsMessageAt (n : Text) (i : ℕ) : Type 0 where

@@ -9,7 +9,7 @@ use Rattle.reflect_build.specs.Accepted.{FaultlessFiles}
 use Rattle.reflect_build.specs.Refusals.{new_files}
 use Rattle.linked_messages.specs.Kept.{IsKept}
 use Rattle.schema_view.specs.Files.{IsThere, imports_of}
-use Rattle.schema_view.specs.Declarations.{Body, of_message, of_field, of_oneof, of_enum, of_value, of_service, of_method, of_extension, Declaration, declarations}
+use Rattle.schema_view.specs.Declarations.{Body, of_field, of_method, of_extension, Declaration, declarations}
 use Rattle.schema_view.specs.References.{Reference, Target, rename_message_type, rename_type, fill_type, dotted, linked}
 use Rattle.schema_view.specs.Outlines.{IsNamed, AreApart}
 use Rattle.schema_view.specs.Lawful.{Meanings, all_linked, IsFile}
@@ -35,16 +35,11 @@ module _ (names : Reference → Target) (n : Text) where
   given_renamed (Some z) (Some s) h = tt
 
   complete_renamed : (b : Body) → IsComplete b → IsComplete (rename_body names n b)
-  complete_renamed (of_message m) h = h
   complete_renamed (of_field f) h = record {
     name = h.name;
     number = h.number;
     type = given_renamed f.field_type f.type_name h.type;
   }
-  complete_renamed (of_oneof o) h = h
-  complete_renamed (of_enum e) h = h
-  complete_renamed (of_value v) h = h
-  complete_renamed (of_service s) h = h
   complete_renamed (of_method m) h = record {
     name = h.name;
     input = there_renamed m.input_type h.input;
@@ -58,6 +53,7 @@ module _ (names : Reference → Target) (n : Text) where
     },
     there_renamed x.extendee h.1,
   )
+  complete_renamed b h = h
 
 -- linked files have names as before
 module _ (old new : List FileContent) (meanings : Meanings) (h : AreWellNamed old new) where
@@ -77,7 +73,7 @@ module _ (old new : List FileContent) (meanings : Meanings) (h : AreWellNamed ol
       subst (λ (x : Declaration). IsComplete x.body) k.2
       (complete_renamed names k.0.name k.0.body (h.complete f k.0 i k.1))
 
-  pub names_kept : AreWellNamed old (all_linked meanings new)
+  names_kept : AreWellNamed old (all_linked meanings new)
   names_kept =
       let os = outlines_linked old new meanings in
       record {

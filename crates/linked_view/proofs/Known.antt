@@ -11,7 +11,7 @@ use Rattle.reflect_scope.specs.Means.{scopes}
 use Rattle.reflect_scope.specs.Says.{IsScope}
 use Rattle.reflect_declarations.specs.declared.offsets.Offsets.{Offsets}
 use Rattle.reflect_declarations.specs.Tree.{text_of}
-use Rattle.reflect_declarations.specs.Declarations.{Declaration, Body, of_file, of_message, of_field, of_oneof, of_enum, of_enum_value, of_service, of_method, of_extension, file_declaration, file_declarations, past_file}
+use Rattle.reflect_declarations.specs.Declarations.{Declaration, Body, of_file, file_declaration, file_declarations, past_file}
 use Rattle.reflect_declarations.specs.Batches.{batch_declarations}
 use Rattle.reflect_known.specs.KnownNames.{kind_of, definition_of, package_of, nothing_known, nothing_before, known_of_files}
 use Rattle.reflect_names.proofs.Declared.{declared_new}
@@ -221,14 +221,7 @@ IsKindIn k (Some b) = IsKindOf k (sort_of b)
 kind_in : (d : Declaration) (b : Body) → is_some (seen_body b) ≡ true
     → IsKindIn (kind_of (record d { body = b })) (seen_body b)
 kind_in d (of_file f) e = absurd (cc e)
-kind_in d (of_message m) e = tt
-kind_in d (of_field f) e = tt
-kind_in d (of_oneof o) e = tt
-kind_in d (of_enum k) e = tt
-kind_in d (of_enum_value v) e = tt
-kind_in d (of_service s) e = tt
-kind_in d (of_method m) e = tt
-kind_in d (of_extension x) e = tt
+kind_in d b e = tt
 
 module _ (files : List FileDescriptorProto) (named : AreWellNamed [] (map file_view files)) where
   abbrev ds : List Declaration
@@ -245,9 +238,6 @@ module _ (files : List FileDescriptorProto) (named : AreWellNamed [] (map file_v
 
   -- what a declaration in a file gives
   module _ (q : Offsets) (i : ℕ) (f : FileDescriptorProto) (at : slice_get files i ≡ Some f) where
-    inner : List Declaration
-    inner = inner_declarations q i f
-
     complete : AllByRecursion (λ (d : Declaration). IsCompleteBody (seen_body d.body))
         (inner_declarations q i f)
     complete = content_from q i f (λ (s : Seen). IsCompleteBody s.1)

@@ -91,7 +91,7 @@ use Rattle.linked_messages.proofs.Stays.{empty_sound}
 module _ (old : PoolType) (w : Linking) (ns : List FileDescriptorProto) (meanings : Meanings)
     (has : IsWellNamed old) (is : IsOf old w)
     (lawful : IsLawful (map file_view old.records) (map file_view ns) meanings) where
-  pub have_names : AreWellNamed (map file_view old.records) (map file_view ns)
+  have_names : AreWellNamed (map file_view old.records) (map file_view ns)
   have_names = record {
     apart = lawful.apart;
     files = lawful.files;
@@ -99,7 +99,7 @@ module _ (old : PoolType) (w : Linking) (ns : List FileDescriptorProto) (meaning
     complete = (sound_parts (map file_view ns) lawful.sound).0;
   }
 
-  pub are_meant : AreMeant (outlines (map file_view (old.records ++ ns))) (map file_view ns)
+  are_meant : AreMeant (outlines (map file_view (old.records ++ ns))) (map file_view ns)
   are_meant = subst (λ fs. AreMeant (outlines fs) (map file_view ns))
       (sym (map-append file_view old.records ns))
       (λ f r i j. (meanings f r, lawful.means f r i j))
@@ -110,7 +110,7 @@ module _ (old : PoolType) (w : Linking) (ns : List FileDescriptorProto) (meaning
       ∙ named_from (batch_places ns w.first) w.indexes w.before w.first old.records ns
       (placed old ns w is has) has.named have_names
 
-  pub files_none : files_faults (batch_places ns w.first) w.indexes w.first ns ≡ []
+  files_none : files_faults (batch_places ns w.first) w.indexes w.first ns ≡ []
   files_none =
       (none_both (files_faults (batch_places ns w.first) w.indexes w.first ns) _ no_name_faults).0
 
@@ -217,7 +217,7 @@ module _ (earlier : List (List FileContent)) (old : PoolType) (w : Linking)
       messages_found (batch_places ns w.first) (before_files rs) new_extensions none
       means.right.targets declared.entries.extensions))
 
-  pub no_doubled : doubled w.numbers t (batch_places ns w.first) ≡ []
+  no_doubled : doubled w.numbers t (batch_places ns w.first) ≡ []
   no_doubled = none_doubled old w is t message_names after linked_after extensions_written
       (batch_places ns w.first)
 
@@ -389,7 +389,7 @@ module _ (earlier : List (List FileContent)) (old : PoolType) (w : Linking)
       (subst (λ v. reference_faults_at (at d.file) v d ≡ []) same (none_at at views ds none d h))
       (agreed d s) (λ own body says. entry_used d own h body says)))
 
-  pub no_faulty_numbers : (xs : List Fault) → NumberFaults t w.before w.first ns rs xs → xs ≡ []
+  no_faulty_numbers : (xs : List Fault) → NumberFaults t w.before w.first ns rs xs → xs ≡ []
   no_faulty_numbers xs h =
       let at = batch_places ns w.first in
       let parts = sound_parts more lawful.sound in

@@ -12,7 +12,7 @@ use Rattle.reflect_scope.specs.FileIndexes.{Indexes}
 use Rattle.reflect_scope.specs.Known.{Known}
 use Rattle.reflect_scope.specs.Means.{Meaning, means, resolve}
 use Rattle.reflect_declarations.specs.declared.offsets.Offsets.{Offsets}
-use Rattle.reflect_declarations.specs.Declarations.{Declaration, Body, of_file, of_message, of_field, of_oneof, of_enum, of_enum_value, of_service, of_method, of_extension, file_declaration, file_declarations, past_file}
+use Rattle.reflect_declarations.specs.Declarations.{Declaration, Body, of_field, of_method, of_extension, file_declaration, file_declarations, past_file}
 use Rattle.reflect_declarations.specs.Batches.{batch_declarations}
 use Rattle.reflect_names.specs.References.{View, name_targets, targets_of}
 use Rattle.reflect_names.specs.References as pass
@@ -65,7 +65,7 @@ module _ (files : List FileDescriptorProto) (known : Known) (are : AreKnown file
   IsMeant r = HasMeaning os from r
 
   -- what is found is what it means
-  pub means_found : (r : Reference) → IsMeant r
+  means_found : (r : Reference) → IsMeant r
       → ReferenceMeans os from r (record {
         name = (found_by (meaning_in known sees r)).0;
         type = type_of (found_by (meaning_in known sees r)).1.kind;
@@ -109,13 +109,7 @@ module _ (files : List FileDescriptorProto) (known : Known) (are : AreKnown file
 
   body_targets : (d : Declaration) (b : Body) → AllMeant (seen (record d { body = b }))
       → targets_of see (record d { body = b }) ≡ map found (referred (seen (record d { body = b })))
-  body_targets d (of_file f) h = refl
-  body_targets d (of_message m) h = refl
   body_targets d (of_field f) h = type_target d.name f.field_type f.type_name h
-  body_targets d (of_oneof o) h = refl
-  body_targets d (of_enum k) h = refl
-  body_targets d (of_enum_value v) h = refl
-  body_targets d (of_service s) h = refl
   body_targets d (of_method m) h =
       let a = to_message d.name (text_view m.input_type) in
       let b = to_message d.name (text_view m.output_type) in
@@ -128,6 +122,7 @@ module _ (files : List FileDescriptorProto) (known : Known) (are : AreKnown file
       both_targets a b _ _
       (message_target d.name x.extendee (λ r j. h r (Contains-append_left a b r j)))
       (type_target d.name x.field_type x.type_name (λ r j. h r (Contains-append_right a b r j)))
+  body_targets d b h = refl
 
   -- of the declarations of one file
   along_targets : (views : ℕ → View) (i : ℕ) → views i ≡ see → (ds : List Declaration)
@@ -145,7 +140,7 @@ module _ (files : List FileDescriptorProto) (known : Known) (are : AreKnown file
   told_referred [] = refl
   told_referred (v ∷ vs) = ap (λ rs. references_of v ++ rs) (told_referred vs)
 
-  pub file_targets : (views : ℕ → View) (o : Offsets) (i : ℕ) (f : FileDescriptorProto) → views i ≡ see
+  file_targets : (views : ℕ → View) (o : Offsets) (i : ℕ) (f : FileDescriptorProto) → views i ≡ see
       → ((r : Reference) → Contains (references (file_view f)) r → IsMeant r)
       → targets_along views (file_declarations o i f) ≡ map found (references (file_view f))
   file_targets views o i f is h =

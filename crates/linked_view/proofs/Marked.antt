@@ -44,31 +44,27 @@ pub entry_once : (fs : List FileContent) → AreLinked fs → (full : Text) → 
 entry_once fs linked full e = subst (IsOneMap fs) e.name
     (linked.together.entries e.file e.message e.facts e.there e.inside e.body e.says)
 
-pub declares_more : (a b : List FileContent) (full : Text) → DeclaresEntry a full
-    → DeclaresEntry (a ++ b) full
-declares_more a b full e = record {
+declares_among : (fs gs : List FileContent) (full : Text)
+    → ((f : FileContent) → Contains fs f → Contains gs f) → DeclaresEntry fs full
+    → DeclaresEntry gs full
+declares_among fs gs full among e = record {
   file = e.file;
   message = e.message;
   facts = e.facts;
-  there = Contains-append_left a b e.file e.there;
+  there = among e.file e.there;
   inside = e.inside;
   name = e.name;
   body = e.body;
   says = e.says;
 }
 
+pub declares_more : (a b : List FileContent) (full : Text) → DeclaresEntry a full
+    → DeclaresEntry (a ++ b) full
+declares_more a b full = declares_among a (a ++ b) full (Contains-append_left a b)
+
 pub declares_behind : (a b : List FileContent) (full : Text) → DeclaresEntry b full
     → DeclaresEntry (a ++ b) full
-declares_behind a b full e = record {
-  file = e.file;
-  message = e.message;
-  facts = e.facts;
-  there = Contains-append_right a b e.file e.there;
-  inside = e.inside;
-  name = e.name;
-  body = e.body;
-  says = e.says;
-}
+declares_behind a b full = declares_among b (a ++ b) full (Contains-append_right a b)
 
 -- what files declare so is declared in the linked files too
 pub declares_linked : (meanings : Meanings) (first : ℕ) (fs : List FileDescriptorProto)

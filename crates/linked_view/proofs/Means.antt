@@ -35,24 +35,36 @@ module _ (known : Known) (sees : ℕ → Bool) (f : ResolveNameFilter) where
     pub seen : is_seen sees d ≡ true
     pub wanted : is_wanted f d.kind ≡ true
 
+  -- what means the definition that stands where it is seen and wanted, and none elsewhere
+  found_by : (x : Definition) (n full : Text) (d : Definition) (m : Meaning)
+      → (is_seen sees x ≡ true → is_wanted f x.kind ≡ true → m ≡ means n x)
+      → (is_seen sees x ≡ true → is_wanted f x.kind ≡ false → m ≡ wrong_kind)
+      → (is_seen sees x ≡ false → m ≡ not_found) → m ≡ means full d
+      → (n ≡ full) × (Some x ≡ Some d) × (is_seen sees d ≡ true) × (is_wanted f d.kind ≡ true)
+  found_by x n full d m here wrong unseen e =
+      by (is_seen sees x) refl (is_wanted f x.kind) refl where
+        by : (u : Bool) → is_seen sees x ≡ u → (v : Bool) → is_wanted f x.kind ≡ v
+            → (n ≡ full) × (Some x ≡ Some d) × (is_seen sees d ≡ true)
+            × (is_wanted f d.kind ≡ true)
+        by true seen true wanted =
+            let e' : means n x ≡ means full d = sym (here seen wanted) ∙ e in
+            let name : n ≡ full = cc e' in
+            let own : x ≡ d = cc e' in (
+              name,
+              ap Some own,
+              subst (λ (y : Definition). is_seen sees y ≡ true) own seen,
+              subst (λ (y : Definition). is_wanted f y.kind ≡ true) own wanted,
+            )
+        by true seen false wanted = absurd (cc (sym (wrong seen wanted) ∙ e))
+        by false seen v _ = absurd (cc (sym (unseen seen) ∙ e))
+
   settled_to : (o : Option Definition) (n full : Text) (d : Definition)
       → settled (standing sees f o) n ≡ means full d
       → (n ≡ full) × (o ≡ Some d) × (is_seen sees d ≡ true) × (is_wanted f d.kind ≡ true)
   settled_to None n full d e = absurd (cc e)
-  settled_to (Some x) n full d e = by (is_seen sees x) refl (is_wanted f x.kind) refl where
-    by : (u : Bool) → is_seen sees x ≡ u → (v : Bool) → is_wanted f x.kind ≡ v
-        → (n ≡ full) × (Some x ≡ Some d) × (is_seen sees d ≡ true) × (is_wanted f d.kind ≡ true)
-    by true seen true wanted =
-        let e' : means n x ≡ means full d = rw (seen, wanted) at e in
-        let name : n ≡ full = cc e' in
-        let own : x ≡ d = cc e' in (
-          name,
-          ap Some own,
-          subst (λ (y : Definition). is_seen sees y ≡ true) own seen,
-          subst (λ (y : Definition). is_wanted f y.kind ≡ true) own wanted,
-        )
-    by true seen false wanted = absurd (cc (rw (seen, wanted) at e))
-    by false seen v _ = absurd (cc (rw seen at e))
+  settled_to (Some x) n full d e = found_by x n full d (settled (standing sees f (Some x)) n)
+      (λ seen wanted. rw (seen, wanted) refl) (λ seen wanted. rw (seen, wanted) refl)
+      (λ seen. rw seen refl) e
 
   settled_from : (n : Text) (d : Definition) → IsFound n d
       → settled (standing sees f (known n)) n ≡ means n d
@@ -62,20 +74,9 @@ module _ (known : Known) (sees : ℕ → Bool) (f : ResolveNameFilter) where
       → rooted (standing sees f o) n ≡ means full d
       → (n ≡ full) × (o ≡ Some d) × (is_seen sees d ≡ true) × (is_wanted f d.kind ≡ true)
   rooted_to None n full d e = absurd (cc e)
-  rooted_to (Some x) n full d e = by (is_seen sees x) refl (is_wanted f x.kind) refl where
-    by : (u : Bool) → is_seen sees x ≡ u → (v : Bool) → is_wanted f x.kind ≡ v
-        → (n ≡ full) × (Some x ≡ Some d) × (is_seen sees d ≡ true) × (is_wanted f d.kind ≡ true)
-    by true seen true wanted =
-        let e' : means n x ≡ means full d = rw (seen, wanted) at e in
-        let name : n ≡ full = cc e' in
-        let own : x ≡ d = cc e' in (
-          name,
-          ap Some own,
-          subst (λ (y : Definition). is_seen sees y ≡ true) own seen,
-          subst (λ (y : Definition). is_wanted f y.kind ≡ true) own wanted,
-        )
-    by true seen false wanted = absurd (cc (rw (seen, wanted) at e))
-    by false seen v _ = absurd (cc (rw seen at e))
+  rooted_to (Some x) n full d e = found_by x n full d (rooted (standing sees f (Some x)) n)
+      (λ seen wanted. rw (seen, wanted) refl) (λ seen wanted. rw (seen, wanted) refl)
+      (λ seen. rw seen refl) e
 
   rooted_from : (n : Text) (d : Definition) → IsFound n d
       → rooted (standing sees f (known n)) n ≡ means n d
@@ -89,6 +90,21 @@ module _ (known : Known) (sees : ℕ → Bool) (f : ResolveNameFilter) where
 
   joined : (p n : Text) → scope.join p n ≡ join p n
   joined p n = sym (join_seen p n)
+
+  -- what a plain name means where it has a dot, and where it has none
+  abbrev SaysBy : Text → Text → Meaning → Bool → Type 0
+  SaysBy around name m b = MatchBool b
+      (SaysDotted (λ p. is_holder (known (scope.join p (scope.first_part name))))
+      (λ p. standing sees f (known (scope.join p name))) name around m)
+      (SaysUndotted (λ p. standing sees f (known (scope.join p name))) name around m)
+
+  abbrev MeansPlainBy : Text → Text → Text → Bool → Type 0
+  MeansPlainBy around name full b = MatchBool b (MeansDotted Wanted Holding around name full)
+      (MeansUndotted Wanted Holding around name full)
+
+  abbrev MeansFrom : Text → ℕ → Text → Text → Bool → Type 0
+  MeansFrom around b name full u = MatchBool u ((full ≡ name) × Wanted name)
+      (MeansPlain Wanted Holding around (b ∷ name) full)
 
   module _ (around name : Text) where
     undotted_to : (full : Text) (d : Definition)
@@ -139,38 +155,16 @@ module _ (known : Known) (sees : ℕ → Bool) (f : ResolveNameFilter) where
 
     plain_to : (full : Text) (d : Definition) → SaysPlain known sees f around name (means full d)
         → MeansPlain Wanted Holding around name full × IsFound full d
-    plain_to full d h = by (has_dot name) refl
-        (subst (λ b. MatchBool b
-        (SaysDotted (λ p. is_holder (known (scope.join p (scope.first_part name))))
-        (λ p. standing sees f (known (scope.join p name))) name around (means full d))
-        (SaysUndotted (λ p. standing sees f (known (scope.join p name))) name around (means full d)))
-        (dots_same name) h) where
-          by : (b : Bool) → has_dot name ≡ b → MatchBool (has_dot name)
-              (SaysDotted (λ p. is_holder (known (scope.join p (scope.first_part name))))
-              (λ p. standing sees f (known (scope.join p name))) name around (means full d))
-              (SaysUndotted (λ p. standing sees f (known (scope.join p name))) name around
-              (means full d))
+    plain_to full d h =
+        by (has_dot name) refl (subst (SaysBy around name (means full d)) (dots_same name) h) where
+          by : (b : Bool) → has_dot name ≡ b → SaysBy around name (means full d) b
               → MeansPlain Wanted Holding around name full × IsFound full d
           by true is k =
-              let r = dotted_to full d (subst (λ b. MatchBool b
-              (SaysDotted (λ p. is_holder (known (scope.join p (scope.first_part name))))
-              (λ p. standing sees f (known (scope.join p name))) name around (means full d))
-              (SaysUndotted (λ p. standing sees f (known (scope.join p name))) name around
-              (means full d))) is k) in (
-                subst (λ b. MatchBool b (MeansDotted Wanted Holding around name full)
-                    (MeansUndotted Wanted Holding around name full)) (sym is) r.0,
-                r.1,
-              )
+              let r = dotted_to full d k in
+              (subst (MeansPlainBy around name full) (sym is) r.0, r.1)
           by false is k =
-              let r = undotted_to full d (subst (λ b. MatchBool b
-              (SaysDotted (λ p. is_holder (known (scope.join p (scope.first_part name))))
-              (λ p. standing sees f (known (scope.join p name))) name around (means full d))
-              (SaysUndotted (λ p. standing sees f (known (scope.join p name))) name around
-              (means full d))) is k) in (
-                subst (λ b. MatchBool b (MeansDotted Wanted Holding around name full)
-                    (MeansUndotted Wanted Holding around name full)) (sym is) r.0,
-                r.1,
-              )
+              let r = undotted_to full d k in
+              (subst (MeansPlainBy around name full) (sym is) r.0, r.1)
 
   by_dot : (around : Text) (b : ℕ) (name : Text) (m : Meaning) (v : Bool) → eqb b 46 ≡ v
       → NameMeans known sees f around (b ∷ name) m
@@ -190,16 +184,12 @@ module _ (known : Known) (sees : ℕ → Bool) (f : ResolveNameFilter) where
     by true is =
         let r = rooted_to (known name) name full d (sym (by_dot around b name (means full d) true is says)) in
         let here : IsFound name d = record { known_as = r.1; seen = r.2; wanted = r.3 } in (
-          subst (λ u. MatchBool u ((full ≡ name) × Wanted name)
-              (MeansPlain Wanted Holding around (b ∷ name) full)) (sym is) (sym r.0, (d, here)),
+          subst (MeansFrom around b name full) (sym is) (sym r.0, (d, here)),
           subst (λ n. IsFound n d) r.0 here,
         )
     by false is =
-        let r = plain_to around (b ∷ name) full d (by_dot around b name (means full d) false is says) in (
-          subst (λ u. MatchBool u ((full ≡ name) × Wanted name)
-              (MeansPlain Wanted Holding around (b ∷ name) full)) (sym is) r.0,
-          r.1,
-        )
+        let r = plain_to around (b ∷ name) full d (by_dot around b name (means full d) false is says) in
+        (subst (MeansFrom around b name full) (sym is) r.0, r.1)
 
   pub resolved_to : (around name full : Text) (d : Definition)
       → resolve known sees f around name ≡ means full d
@@ -272,30 +262,11 @@ module _ (known : Known) (sees : ℕ → Bool) (f : ResolveNameFilter) where
 
     plain_from : MeansPlain Wanted Holding around name full → (m : Meaning)
         → SaysPlain known sees f around name m → Resolves m
-    plain_from h m k = by (has_dot name) refl where
-      says : MatchBool (has_dot name)
-          (SaysDotted (λ p. is_holder (known (scope.join p (scope.first_part name))))
-          (λ p. standing sees f (known (scope.join p name))) name around m)
-          (SaysUndotted (λ p. standing sees f (known (scope.join p name))) name around m)
-      says = subst (λ b. MatchBool b
-          (SaysDotted (λ p. is_holder (known (scope.join p (scope.first_part name))))
-          (λ p. standing sees f (known (scope.join p name))) name around m)
-          (SaysUndotted (λ p. standing sees f (known (scope.join p name))) name around m))
-          (dots_same name) k
-
-      by : (b : Bool) → has_dot name ≡ b → Resolves m
-      by true is =
-          dotted_from (subst (λ b. MatchBool b (MeansDotted Wanted Holding around name full)
-          (MeansUndotted Wanted Holding around name full)) is h) m (subst (λ b. MatchBool b
-          (SaysDotted (λ p. is_holder (known (scope.join p (scope.first_part name))))
-          (λ p. standing sees f (known (scope.join p name))) name around m)
-          (SaysUndotted (λ p. standing sees f (known (scope.join p name))) name around m)) is says)
-      by false is =
-          undotted_from (subst (λ b. MatchBool b (MeansDotted Wanted Holding around name full)
-          (MeansUndotted Wanted Holding around name full)) is h) m (subst (λ b. MatchBool b
-          (SaysDotted (λ p. is_holder (known (scope.join p (scope.first_part name))))
-          (λ p. standing sees f (known (scope.join p name))) name around m)
-          (SaysUndotted (λ p. standing sees f (known (scope.join p name))) name around m)) is says)
+    plain_from h m k =
+        by (has_dot name) h (subst (SaysBy around name m) (dots_same name) k) where
+          by : (b : Bool) → MeansPlainBy around name full b → SaysBy around name m b → Resolves m
+          by true h says = dotted_from h m says
+          by false h says = undotted_from h m says
 
   pub resolved_from : (around name full : Text) → MeansBy Wanted Holding around name full
       → (d : Definition) × (resolve known sees f around name ≡ means full d)
@@ -308,12 +279,10 @@ module _ (known : Known) (sees : ℕ → Bool) (f : ResolveNameFilter) where
     by : (v : Bool) → eqb b 46 ≡ v
         → (d : Definition) × (resolve known sees f around (b ∷ name) ≡ means full d)
     by true is =
-        let r = subst (λ u. MatchBool u ((full ≡ name) × Wanted name)
-        (MeansPlain Wanted Holding around (b ∷ name) full)) is h in
+        let r = subst (MeansFrom around b name full) is h in
         let m = by_dot around b name (resolve known sees f around (b ∷ name)) true is says in
         (r.1.0, m ∙ rooted_from name r.1.0 r.1.1 ∙ ap (λ n. means n r.1.0) (sym r.0))
     by false is =
-        plain_from around (b ∷ name) full (subst (λ u. MatchBool u ((full ≡ name) × Wanted name)
-        (MeansPlain Wanted Holding around (b ∷ name) full)) is h)
+        plain_from around (b ∷ name) full (subst (MeansFrom around b name full) is h)
         (resolve known sees f around (b ∷ name))
         (by_dot around b name (resolve known sees f around (b ∷ name)) false is says)

@@ -102,35 +102,23 @@ module _ (Q : ℕ → ℕ → FieldDescriptorProto → Type 0) where
   have_split [] b h = (tt, h)
   have_split (d ∷ a) b h = let rest = have_split a b h.1 in ((h.0, rest.0), rest.1)
 
-  pub have_joined : (a b : List Declaration) → HaveFields a → HaveFields b → HaveFields (a ++ b)
+  have_joined : (a b : List Declaration) → HaveFields a → HaveFields b → HaveFields (a ++ b)
   have_joined [] b h i = i
   have_joined (d ∷ a) b h i = (h.0, have_joined a b h.1 i)
 
   plain_in_one : (k : ℕ) (d : Declaration) (b : Body) → IsPlain b → IsIn k (record d { body = b })
-  plain_in_one k d (of_file f) h = tt
   plain_in_one k d (of_message m) h = absurd h
   plain_in_one k d (of_field f) h = absurd h
-  plain_in_one k d (of_oneof o) h = tt
-  plain_in_one k d (of_enum e) h = tt
-  plain_in_one k d (of_enum_value v) h = tt
-  plain_in_one k d (of_service s) h = tt
-  plain_in_one k d (of_method m) h = tt
-  plain_in_one k d (of_extension x) h = tt
+  plain_in_one k d b h = tt
 
   plain_in : (k : ℕ) (ds : List Declaration) → ArePlain ds → AreIn k ds
   plain_in k [] h = tt
   plain_in k (d ∷ ds) h = (plain_in_one k d d.body h.0, plain_in (oneofs_behind d k) ds h.1)
 
   plain_has_one : (d : Declaration) (b : Body) → IsPlain b → HasFields (record d { body = b })
-  plain_has_one d (of_file f) h = tt
   plain_has_one d (of_message m) h = absurd h
   plain_has_one d (of_field f) h = absurd h
-  plain_has_one d (of_oneof o) h = tt
-  plain_has_one d (of_enum e) h = tt
-  plain_has_one d (of_enum_value v) h = tt
-  plain_has_one d (of_service s) h = tt
-  plain_has_one d (of_method m) h = tt
-  plain_has_one d (of_extension x) h = tt
+  plain_has_one d b h = tt
 
   plain_has : (ds : List Declaration) → ArePlain ds → HaveFields ds
   plain_has [] h = tt

@@ -155,7 +155,7 @@ module _ (o : Offsets) (i : ℕ) (f : FileDescriptorProto) where
       (subst (AllByRecursion (λ (s : Seen). IsCompleteBody s.1)) (sym (file_seen o i f))
       (mapped_all told (λ (s : Seen). IsCompleteBody s.1) content all))
 
-  pub inner_names : map (λ (d : Declaration). d.name) inner
+  inner_names : map (λ (d : Declaration). d.name) inner
       ≡ map (λ (v : view.Declaration). v.name) content
   inner_names =
       sym (map_same (λ (s : Seen). s.0) seen (λ (d : Declaration). d.name) (λ d. refl) inner)
@@ -164,14 +164,7 @@ module _ (o : Offsets) (i : ℕ) (f : FileDescriptorProto) where
 
 own_inner : (files : Indexes) (b : Body) → is_some (seen_body b) ≡ true → IsOwnBody files b
 own_inner files (of_file f) e = absurd (cc e)
-own_inner files (of_message m) e = tt
-own_inner files (of_field f) e = tt
-own_inner files (of_oneof o) e = tt
-own_inner files (of_enum k) e = tt
-own_inner files (of_enum_value v) e = tt
-own_inner files (of_service s) e = tt
-own_inner files (of_method m) e = tt
-own_inner files (of_extension x) e = tt
+own_inner files b e = tt
 
 abbrev IsGoodFile : Indexes → FileDescriptorProto → Type 0
 IsGoodFile files f = IsOwn files f
@@ -534,7 +527,7 @@ module _ (old new : List FileDescriptorProto) (o : Offsets) (i : ℕ) (whole_old
             let r = batch_package n nothing_before 0 old whole_old (omega (arith, is)) in
             (joined (inl r.0), r.1)
 
-  pub names_apart : Free nothing_known both_given
+  names_apart : Free nothing_known both_given
       → ((n : Text) → times_declared n both_outlines ≤ 1)
       × ((n : Text) (q : Outline) (h : Head) → Contains both_outlines q → Contains q.heads h
       → h.name ≡ n → IsPackage both_outlines n → n ≡ [])

@@ -134,7 +134,7 @@ pub names_recorded : (fs : List FileDescriptorProto) → names_of_files (map rec
 names_recorded fs = map_same (λ f. f.name) record_file (λ (f : FileDescriptorProto). text_of f.name)
     (λ f. refl) fs
 
-pub outlined_times : (n : Text) (old new : List FileDescriptorProto)
+outlined_times : (n : Text) (old new : List FileDescriptorProto)
     → times_named n (outlines (map file_view old ++ map file_view new))
     ≡ times n (names_in old) + times n (names_in new)
 outlined_times n old new =
@@ -144,7 +144,7 @@ outlined_times n old new =
     ∙ ap (λ xs. times n (names_in old ++ xs)) (names_seen new)
     ∙ times-append n (names_in old) (names_in new)
 
-import_in : (publics : List ℤ) (k : ℕ) (ts : List Text) (i : Import)
+pub import_in : (publics : List ℤ) (k : ℕ) (ts : List Text) (i : Import)
     → Contains (imports_from publics k ts) i → Contains ts i.file
 import_in publics k [] i h = absurd (contains_none i h)
 import_in publics k (t ∷ ts) i h = elim (contains_cases _ _ i h) [
@@ -152,7 +152,7 @@ import_in publics k (t ∷ ts) i h = elim (contains_cases _ _ i h) [
   | inr j ↦ contains_there t ts i.file (import_in publics (k + 1) ts i j)
 ]
 
-in_import : (publics : List ℤ) (k : ℕ) (ts : List Text) (t : Text) → Contains ts t
+pub in_import : (publics : List ℤ) (k : ℕ) (ts : List Text) (t : Text) → Contains ts t
     → (i : Import) × Contains (imports_from publics k ts) i × (i.file ≡ t)
 in_import publics k [] t h = absurd (contains_none t h)
 in_import publics k (s ∷ ts) t h = by (contains_cases s ts t h) (in_import publics (k + 1) ts t)

@@ -3,14 +3,14 @@ use Rattle.std.proofs.Common.{◌≡◌, ◌⊎◌, ◌∙◌, ◌+◌, inl, inr
 use Rattle.std.specs.List.{Contains, filter, flat_map}
 use Rattle.std.proofs.lemmas.List.Sums.{sum_by-cons}
 use Rattle.descriptor_records.specs.Content.{Text, FieldContent, FileContent}
-use Rattle.schema_view.specs.Declarations.{Declaration, declarations, Body, of_message, of_field, of_oneof, of_enum, of_value, of_service, of_method, of_extension}
+use Rattle.schema_view.specs.Declarations.{Declaration, declarations, Body, of_field, of_extension}
 use Rattle.schema_view.specs.Lawful.{is_dotted, times_by, is_use, IsMap, IsMapUse, IsOneMap}
 use Rattle.schema_view.proofs.Lists.{contains_here, contains_there, contains_cases, contains_none, contains_flat, contains_flat_cases, sum_same}
 use Rattle.linked_view.proofs.Counts.{one_if}
 use Rattle.linked_view.proofs.Extended.{sum_flat}
 use Rattle.linked_view.proofs.Used.{WrittenUse, uses_of}
 
-pub sum_filter : {X : Type 0} (test : X → Bool) (xs : List X)
+sum_filter : {X : Type 0} (test : X → Bool) (xs : List X)
     → sum_by (λ x. one_if (test x)) xs ≡ length (filter test xs)
 sum_filter test [] = refl
 sum_filter {X} test (x ∷ xs) =
@@ -48,7 +48,7 @@ filter_contains {X} test (y ∷ xs) x h e =
       by false is (inr j) rest =
           subst (λ c. Contains (cond c (y ∷ filter test xs) (filter test xs)) x) (sym is) (rest j)
 
-pub contains_filter : {X : Type 0} (test : X → Bool) (xs : List X) (x : X)
+contains_filter : {X : Type 0} (test : X → Bool) (xs : List X) (x : X)
     → Contains (filter test xs) x → Contains xs x × (test x ≡ true)
 contains_filter test [] x h = absurd (contains_none x h)
 contains_filter {X} test (y ∷ xs) x h = by (test y) refl (contains_filter test xs x) where
@@ -74,18 +74,13 @@ module _ (full : Text) where
   body_uses : (n : Text) (b : Body)
       → sum_by (λ u. one_if (names_it u)) (uses_of (record { name = n; body = b }))
       ≡ cond (is_use full b) 1 0
-  body_uses n (of_message m) = refl
   body_uses n (of_field x) =
       let sum = sum_by-cons (λ u. one_if (names_it u)) (x.type_name, (x.label, x.field_type)) [] in
       omega (arith, sum)
-  body_uses n (of_oneof o) = refl
-  body_uses n (of_enum e) = refl
-  body_uses n (of_value v) = refl
-  body_uses n (of_service s) = refl
-  body_uses n (of_method m) = refl
   body_uses n (of_extension x) =
       let sum = sum_by-cons (λ u. one_if (names_it u)) (x.type_name, (x.label, x.field_type)) [] in
       omega (arith, sum)
+  body_uses n b = refl
 
   pub times_used : (fs : List FileContent) → times_by (is_use full) fs
       ≡ length (filter names_it (written_uses fs))
@@ -114,18 +109,13 @@ module _ (full : Text) where
 
     body_map : (n : Text) (b : Body) → ((v : WrittenUse) → Contains (uses_of (record { name = n; body = b })) v
         → Contains (written_uses fs) v) → IsMapUse full b
-    body_map n (of_message m) h = tt
     body_map n (of_field x) h = λ e.
         let v : WrittenUse = (x.type_name, (x.label, x.field_type)) in
         is_it v (h v (contains_here v [])) e
-    body_map n (of_oneof o) h = tt
-    body_map n (of_enum e) h = tt
-    body_map n (of_value v) h = tt
-    body_map n (of_service s) h = tt
-    body_map n (of_method m) h = tt
     body_map n (of_extension x) h = λ e.
         let v : WrittenUse = (x.type_name, (x.label, x.field_type)) in
         is_it v (h v (contains_here v [])) e
+    body_map n b h = tt
 
     pub one_use_map : IsOneMap fs full
     one_use_map = record {
@@ -154,12 +144,7 @@ module _ (full : Text) where
       → (u.1.0 ≡ Some (pos 3)) × (u.1.1 ≡ Some (pos 11))
   body_used n (of_field x) h u i e = field_used x h u i e
   body_used n (of_extension x) h u i e = field_used x h u i e
-  body_used n (of_message m) h u i e = absurd (contains_none u i)
-  body_used n (of_oneof o) h u i e = absurd (contains_none u i)
-  body_used n (of_enum k) h u i e = absurd (contains_none u i)
-  body_used n (of_value v) h u i e = absurd (contains_none u i)
-  body_used n (of_service s) h u i e = absurd (contains_none u i)
-  body_used n (of_method m) h u i e = absurd (contains_none u i)
+  body_used n b h u i e = absurd (contains_none u i)
 
   pub used_as_map : (fs : List FileContent)
       → ((f : FileContent) (d : Declaration) → Contains fs f → Contains (declarations f) d

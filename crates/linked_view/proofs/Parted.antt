@@ -113,7 +113,7 @@ module _ (old new : PoolType) (ns : List FileDescriptorProto) (w : Linking) (is 
         let named = name_at n m x place.0 s.0 place.1 s.1 in
         (message_of s.0, named.0, named.1, sym marks ∙ declared.is_entry ∙ entry)
 
-    pub entries_new : TellsEntries old → TellsEntries new
+    entries_new : TellsEntries old → TellsEntries new
     entries_new tells f d m i j body says =
         let alone = lawful_alone old new ns w is has names batch kept in
         let after = all_linked alone.meanings more in
@@ -160,7 +160,7 @@ module _ (old new : PoolType) (ns : List FileDescriptorProto) (w : Linking) (is 
         (declares_linked meanings w.first ns d (shown_in w.before w.first ns d there) its.own
         its.declared.body says)
 
-    pub declared_new : HasDeclaredEntries old → HasDeclaredEntries new
+    declared_new : HasDeclaredEntries old → HasDeclaredEntries new
     declared_new declared t h parts =
         let alone = lawful_alone old new ns w is has names batch kept in
         let after = all_linked alone.meanings more in

@@ -17,7 +17,7 @@ use Rattle.reflect_declarations.specs.Batches.{batch_declarations}
 use Rattle.reflect_build.specs.Accepted.{FaultlessBatch, FaultlessFiles}
 use Rattle.reflect_build.specs.Refusals.{AreTypes, Linking, with_declared, IsOf, new_files}
 use Rattle.linked_messages.specs.Kept.{IsKept}
-use Rattle.schema_view.specs.Declarations.{Body, of_message, of_field, of_oneof, of_enum, of_service, of_method, of_extension, Declaration, declarations}
+use Rattle.schema_view.specs.Declarations.{Body, of_message, Declaration, declarations}
 use Rattle.schema_view.specs.Lawful.{outlines}
 use Rattle.schema_view.specs.References.{linked}
 use Rattle.schema_view.proofs.Lists.{contains_none, contains_map, contains_map_cases}
@@ -70,14 +70,7 @@ one_ranged : (d : walk.Declaration) (b : walk.Body) (ds : List walk.Declaration)
     → ranges_in (record d { body = b }) ++ flat_map ranges_in ds
     ≡ map declared_ranges (message_in b ++ messages_in ds)
 one_ranged d (walk.of_message m) ds rest = ap (λ l. declared_ranges m ∷ l) rest
-one_ranged d (walk.of_file f) ds rest = rest
-one_ranged d (walk.of_field f) ds rest = rest
-one_ranged d (walk.of_oneof o) ds rest = rest
-one_ranged d (walk.of_enum k) ds rest = rest
-one_ranged d (walk.of_enum_value v) ds rest = rest
-one_ranged d (walk.of_service s) ds rest = rest
-one_ranged d (walk.of_method m) ds rest = rest
-one_ranged d (walk.of_extension x) ds rest = rest
+one_ranged d b ds rest = rest
 
 all_ranged : (ds : List walk.Declaration) → flat_map ranges_in ds
     ≡ map declared_ranges (messages_in ds)
@@ -85,7 +78,7 @@ all_ranged [] = refl
 all_ranged (d ∷ ds) = one_ranged d d.body ds (all_ranged ds)
 
 -- the declarations of a pool's records, and behind them those of new files
-pub batch_all : (old : PoolType) (ns : List FileDescriptorProto) (w : Linking) → IsOf old w
+batch_all : (old : PoolType) (ns : List FileDescriptorProto) (w : Linking) → IsOf old w
     → IsWellNamed old → batch_declarations nothing_before 0 (old.records ++ ns)
     ≡ batch_declarations nothing_before 0 old.records ++ batch_declarations w.before w.first ns
 batch_all old ns w is has =
@@ -138,7 +131,7 @@ module _ (old : PoolType) (ns : List FileDescriptorProto) (w : Linking) (is : Is
       (zip_both HasRanges (flat_map ranges_in front) (flat_map ranges_in back) olds news older
       (all_declared back news declared.ranges)))
 
-  pub stored_for : (i : ℕ) (own : MessageParts)
+  stored_for : (i : ℕ) (own : MessageParts)
       → slice_get (messages_in all_declarations) i ≡ Some own
       → (s : StoredMessage) × (slice_get stored i ≡ Some s) × HasRanges (declared_ranges own) s
   stored_for i own place =

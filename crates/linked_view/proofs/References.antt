@@ -15,7 +15,7 @@ use Rattle.reflect_scope.specs.declared.definition.ResolveNameFilter.TheVariants
 use Rattle.reflect_scope.specs.Known.{Known, is_package}
 use Rattle.reflect_scope.specs.Means.{Meaning, means, not_found, wrong_kind, shadowed, is_wanted, resolve}
 use Rattle.reflect_declarations.specs.declared.offsets.Offsets.{Offsets}
-use Rattle.reflect_declarations.specs.Declarations.{Declaration, Body, of_file, of_message, of_field, of_oneof, of_enum, of_enum_value, of_service, of_method, of_extension, file_declarations, past_file}
+use Rattle.reflect_declarations.specs.Declarations.{Declaration, Body, of_file, of_field, of_method, of_extension, file_declarations, past_file}
 use Rattle.reflect_declarations.specs.Batches.{batch_declarations}
 use Rattle.reflect_names.specs.Faults.{Place}
 use Rattle.reflect_names.specs.Names.{Places}
@@ -63,42 +63,11 @@ no_other (a_type n) e = cc e
 
 sort_typed : (w : Want) (k : DefinitionKind) (s : Sort) → IsKindOf k s
     → meant.is_wanted w s ≡ true → meant.HasType s (type_of k)
-sort_typed w kind.Package (message_sort extensions reserved) h e = absurd h
-sort_typed w kind.Package (enum_sort values) h e = absurd h
-sort_typed w kind.Package service_sort h e = absurd h
-sort_typed w kind.Package other_sort h e = absurd h
+sort_typed w k other_sort h e = absurd (no_other w e)
+sort_typed w k service_sort h e = absurd (no_service w e)
 sort_typed w (kind.Message i) (message_sort extensions reserved) h e = refl
-sort_typed w (kind.Message i) (enum_sort values) h e = absurd h
-sort_typed w (kind.Message i) service_sort h e = absurd h
-sort_typed w (kind.Message i) other_sort h e = absurd h
-sort_typed w kind.Field (message_sort extensions reserved) h e = absurd h
-sort_typed w kind.Field (enum_sort values) h e = absurd h
-sort_typed w kind.Field service_sort h e = absurd h
-sort_typed w kind.Field other_sort h e = absurd (no_other w e)
-sort_typed w kind.Oneof (message_sort extensions reserved) h e = absurd h
-sort_typed w kind.Oneof (enum_sort values) h e = absurd h
-sort_typed w kind.Oneof service_sort h e = absurd h
-sort_typed w kind.Oneof other_sort h e = absurd (no_other w e)
-sort_typed w (kind.Enum i) (message_sort extensions reserved) h e = absurd h
 sort_typed w (kind.Enum i) (enum_sort values) h e = refl
-sort_typed w (kind.Enum i) service_sort h e = absurd h
-sort_typed w (kind.Enum i) other_sort h e = absurd h
-sort_typed w kind.EnumValue (message_sort extensions reserved) h e = absurd h
-sort_typed w kind.EnumValue (enum_sort values) h e = absurd h
-sort_typed w kind.EnumValue service_sort h e = absurd h
-sort_typed w kind.EnumValue other_sort h e = absurd (no_other w e)
-sort_typed w (kind.Extension i) (message_sort extensions reserved) h e = absurd h
-sort_typed w (kind.Extension i) (enum_sort values) h e = absurd h
-sort_typed w (kind.Extension i) service_sort h e = absurd h
-sort_typed w (kind.Extension i) other_sort h e = absurd (no_other w e)
-sort_typed w (kind.Service i) (message_sort extensions reserved) h e = absurd h
-sort_typed w (kind.Service i) (enum_sort values) h e = absurd h
-sort_typed w (kind.Service i) service_sort h e = absurd (no_service w e)
-sort_typed w (kind.Service i) other_sort h e = absurd h
-sort_typed w kind.Method (message_sort extensions reserved) h e = absurd h
-sort_typed w kind.Method (enum_sort values) h e = absurd h
-sort_typed w kind.Method service_sort h e = absurd h
-sort_typed w kind.Method other_sort h e = absurd (no_other w e)
+sort_typed w k s h e = absurd h
 
 -- a number by the kind that it stands for
 type_message : (n : ℤ) (i : ℕ) → is_type_of n (kind.Message i) ≡ true → (n ≡ pos 10) ⊎ (n ≡ pos 11)
@@ -117,20 +86,8 @@ type_enum (pos m) i e = let same : m ≡ 14 = grind (arith, e) in ap pos same
 no_type : (n : ℤ) (k : DefinitionKind) → is_type_of n k ≡ true → IsNamedType n
 no_type n (kind.Message i) e = elim (type_message n i e) [ inl a ↦ inl a | inr b ↦ inr (inl b) ]
 no_type n (kind.Enum i) e = inr (inr (type_enum n i e))
-no_type (pos m) kind.Package e = absurd (cc e)
-no_type (pos m) kind.Field e = absurd (cc e)
-no_type (pos m) kind.Oneof e = absurd (cc e)
-no_type (pos m) kind.EnumValue e = absurd (cc e)
-no_type (pos m) (kind.Extension i) e = absurd (cc e)
-no_type (pos m) (kind.Service i) e = absurd (cc e)
-no_type (pos m) kind.Method e = absurd (cc e)
-no_type (negsuc m) kind.Package e = absurd (cc e)
-no_type (negsuc m) kind.Field e = absurd (cc e)
-no_type (negsuc m) kind.Oneof e = absurd (cc e)
-no_type (negsuc m) kind.EnumValue e = absurd (cc e)
-no_type (negsuc m) (kind.Extension i) e = absurd (cc e)
-no_type (negsuc m) (kind.Service i) e = absurd (cc e)
-no_type (negsuc m) kind.Method e = absurd (cc e)
+no_type (pos m) k e = absurd (cc e)
+no_type (negsuc m) k e = absurd (cc e)
 
 number_suits : (n : ℤ) (k : DefinitionKind) (s : Sort) → IsKindOf k s → meant.HasType s (type_of k)
     → is_type_of n k ≡ true → SuitsWant (a_type (Some n)) (type_of k)
@@ -139,45 +96,16 @@ number_suits n (kind.Message i) s h t e = elim (type_message n i e) [
   | inr b ↦ inl b
 ]
 number_suits n (kind.Enum i) s h t e = inl (type_enum n i e)
-number_suits n kind.Package s h t e = absurd h
-number_suits n kind.Field (message_sort extensions reserved) h t e = absurd h
-number_suits n kind.Field (enum_sort values) h t e = absurd h
-number_suits n kind.Field service_sort h t e = absurd h
-number_suits n kind.Field other_sort h t e = absurd t
-number_suits n kind.Oneof (message_sort extensions reserved) h t e = absurd h
-number_suits n kind.Oneof (enum_sort values) h t e = absurd h
-number_suits n kind.Oneof service_sort h t e = absurd h
-number_suits n kind.Oneof other_sort h t e = absurd t
-number_suits n kind.EnumValue (message_sort extensions reserved) h t e = absurd h
-number_suits n kind.EnumValue (enum_sort values) h t e = absurd h
-number_suits n kind.EnumValue service_sort h t e = absurd h
-number_suits n kind.EnumValue other_sort h t e = absurd t
-number_suits n (kind.Extension i) (message_sort extensions reserved) h t e = absurd h
-number_suits n (kind.Extension i) (enum_sort values) h t e = absurd h
-number_suits n (kind.Extension i) service_sort h t e = absurd h
-number_suits n (kind.Extension i) other_sort h t e = absurd t
-number_suits n (kind.Service i) (message_sort extensions reserved) h t e = absurd h
-number_suits n (kind.Service i) (enum_sort values) h t e = absurd h
-number_suits n (kind.Service i) service_sort h t e = absurd t
-number_suits n (kind.Service i) other_sort h t e = absurd h
-number_suits n kind.Method (message_sort extensions reserved) h t e = absurd h
-number_suits n kind.Method (enum_sort values) h t e = absurd h
-number_suits n kind.Method service_sort h t e = absurd h
-number_suits n kind.Method other_sort h t e = absurd t
+number_suits n k other_sort h t e = absurd t
+number_suits n k service_sort h t e = absurd t
+number_suits n k s h t e = absurd h
 
 want_suits : (w : Want) (k : DefinitionKind) (s : Sort) → IsKindOf k s → is_wanted (filter_of w) k ≡ true
     → meant.HasType s (type_of k) → Fits w k → SuitsWant w (type_of k)
 want_suits a_message (kind.Message i) s h e t f = refl
-want_suits a_message kind.Package s h e t f = absurd (cc e)
-want_suits a_message kind.Field s h e t f = absurd (cc e)
-want_suits a_message kind.Oneof s h e t f = absurd (cc e)
-want_suits a_message (kind.Enum i) s h e t f = absurd (cc e)
-want_suits a_message kind.EnumValue s h e t f = absurd (cc e)
-want_suits a_message (kind.Extension i) s h e t f = absurd (cc e)
-want_suits a_message (kind.Service i) s h e t f = absurd (cc e)
-want_suits a_message kind.Method s h e t f = absurd (cc e)
 want_suits (a_type None) k s h e t f = tt
 want_suits (a_type (Some n)) k s h e t f = number_suits n k s h t f
+want_suits a_message k s h e t f = absurd (cc e)
 
 -- back
 fits_want : (w : Want) (k : DefinitionKind) (s : Sort) (type : ℤ) → IsKindOf k s → meant.HasType s type
@@ -188,44 +116,13 @@ fits_want (a_type (Some n)) k s type h t u = number_fits n k s type h t u where
   number_fits : (n : ℤ) (k : DefinitionKind) (s : Sort) (type : ℤ) → IsKindOf k s
       → meant.HasType s type → (n ≡ type) ⊎ ((n ≡ pos 10) × (type ≡ pos 11))
       → is_type_of n k ≡ true
-  number_fits n kind.Package (message_sort extensions reserved) type h t u = absurd h
-  number_fits n kind.Package (enum_sort values) type h t u = absurd h
-  number_fits n kind.Package service_sort type h t u = absurd h
-  number_fits n kind.Package other_sort type h t u = absurd h
+  number_fits n k other_sort type h t u = absurd t
+  number_fits n k service_sort type h t u = absurd t
   number_fits n (kind.Message i) (message_sort extensions reserved) type h t (inl e) = ap (λ y. is_type_of y (kind.Message i)) (e ∙ t)
   number_fits n (kind.Message i) (message_sort extensions reserved) type h t (inr (e, u)) = ap (λ y. is_type_of y (kind.Message i)) e
-  number_fits n (kind.Message i) (enum_sort values) type h t u = absurd h
-  number_fits n (kind.Message i) service_sort type h t u = absurd h
-  number_fits n (kind.Message i) other_sort type h t u = absurd h
-  number_fits n kind.Field (message_sort extensions reserved) type h t u = absurd h
-  number_fits n kind.Field (enum_sort values) type h t u = absurd h
-  number_fits n kind.Field service_sort type h t u = absurd h
-  number_fits n kind.Field other_sort type h t u = absurd t
-  number_fits n kind.Oneof (message_sort extensions reserved) type h t u = absurd h
-  number_fits n kind.Oneof (enum_sort values) type h t u = absurd h
-  number_fits n kind.Oneof service_sort type h t u = absurd h
-  number_fits n kind.Oneof other_sort type h t u = absurd t
-  number_fits n (kind.Enum i) (message_sort extensions reserved) type h t u = absurd h
   number_fits n (kind.Enum i) (enum_sort values) type h t (inl e) = ap (λ y. is_type_of y (kind.Enum i)) (e ∙ t)
   number_fits n (kind.Enum i) (enum_sort values) type h t (inr (e, u)) = absurd (cc (sym t ∙ u))
-  number_fits n (kind.Enum i) service_sort type h t u = absurd h
-  number_fits n (kind.Enum i) other_sort type h t u = absurd h
-  number_fits n kind.EnumValue (message_sort extensions reserved) type h t u = absurd h
-  number_fits n kind.EnumValue (enum_sort values) type h t u = absurd h
-  number_fits n kind.EnumValue service_sort type h t u = absurd h
-  number_fits n kind.EnumValue other_sort type h t u = absurd t
-  number_fits n (kind.Extension i) (message_sort extensions reserved) type h t u = absurd h
-  number_fits n (kind.Extension i) (enum_sort values) type h t u = absurd h
-  number_fits n (kind.Extension i) service_sort type h t u = absurd h
-  number_fits n (kind.Extension i) other_sort type h t u = absurd t
-  number_fits n (kind.Service i) (message_sort extensions reserved) type h t u = absurd h
-  number_fits n (kind.Service i) (enum_sort values) type h t u = absurd h
-  number_fits n (kind.Service i) service_sort type h t u = absurd t
-  number_fits n (kind.Service i) other_sort type h t u = absurd h
-  number_fits n kind.Method (message_sort extensions reserved) type h t u = absurd h
-  number_fits n kind.Method (enum_sort values) type h t u = absurd h
-  number_fits n kind.Method service_sort type h t u = absurd h
-  number_fits n kind.Method other_sort type h t u = absurd t
+  number_fits n k s type h t u = absurd h
 
 in_three : (o : Option ℤ) (at : Places) (path : List ℤ) → label_faults at path o ≡ [] → HasLabel o
 in_three None at path e = inl refl
@@ -542,14 +439,9 @@ module _ (files : List FileDescriptorProto) (known : Known) (are : AreKnown file
 
     body_to : (b : Body) → IsCompleteBody (seen_body b) → IsNone b → IsReferred (seen (with_body b))
     body_to (of_file f) complete e = record { labelled = tt; typed = tt; meant = tt }
-    body_to (of_message m) complete e = record { labelled = tt; typed = tt; meant = nothing }
     body_to (of_field f) complete e =
         let parts = field_to at d.path d.name f complete.type e in
         record { labelled = parts.0; typed = parts.1; meant = parts.2 }
-    body_to (of_oneof o) complete e = record { labelled = tt; typed = tt; meant = nothing }
-    body_to (of_enum k) complete e = record { labelled = tt; typed = tt; meant = nothing }
-    body_to (of_enum_value v) complete e = record { labelled = tt; typed = tt; meant = nothing }
-    body_to (of_service s) complete e = record { labelled = tt; typed = tt; meant = nothing }
     body_to (of_method m) complete e =
         let parts = none_both (reference_faults at see filter.Message d.path d.name (pos 2) m.input_type)
         (reference_faults at see filter.Message d.path d.name (pos 3) m.output_type) e in
@@ -575,15 +467,10 @@ module _ (files : List FileDescriptorProto) (known : Known) (are : AreKnown file
                 | inr j ↦ parts.2 r j
               ];
         }
+    body_to b complete e = record { labelled = tt; typed = tt; meant = nothing }
 
     body_from : (b : Body) → IsReferred (seen (with_body b)) → IsNone b
-    body_from (of_file f) h = refl
-    body_from (of_message m) h = refl
     body_from (of_field f) h = field_from at d.path d.name f h.labelled h.typed h.meant
-    body_from (of_oneof o) h = refl
-    body_from (of_enum k) h = refl
-    body_from (of_enum_value v) h = refl
-    body_from (of_service s) h = refl
     body_from (of_method m) h =
         let left = to_message d.name (text_view m.input_type) in
         let right = to_message d.name (text_view m.output_type) in
@@ -602,6 +489,7 @@ module _ (files : List FileDescriptorProto) (known : Known) (are : AreKnown file
         (λ r j. h.meant r (Contains-append_left left right r j)))
         (field_from at d.path d.name x h.labelled h.typed
         (λ r j. h.meant r (Contains-append_right left right r j)))
+    body_from b h = refl
 
 -- of a batch
 abbrev AreNone : (ℕ → Places) → (ℕ → View) → List Declaration → Type 0

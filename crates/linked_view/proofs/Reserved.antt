@@ -8,7 +8,7 @@ use Rattle.reflect_scope.specs.declared.definition.DefinitionKind.TheVariants as
 use Rattle.reflect_scope.specs.declared.definition.ResolveNameFilter.TheVariants as filter
 use Rattle.reflect_scope.specs.FileIndexes.{Indexes}
 use Rattle.reflect_scope.specs.Known.{Known}
-use Rattle.reflect_declarations.specs.Declarations.{of_file, of_message, of_field, of_oneof, of_enum, of_enum_value, of_service, of_method, of_extension}
+use Rattle.reflect_declarations.specs.Declarations.{of_extension}
 use Rattle.reflect_names.specs.Names.{Places}
 use Rattle.reflect_names.specs.References.{View, meaning_of, kind_meant, reference_faults}
 use Rattle.reflect_passes.specs.declared.linked_types.LinkedTypes.{LinkedTypes}
@@ -49,14 +49,7 @@ module _ (files : List FileDescriptorProto) (known : Known) (are : AreKnown file
         → known full ≡ Some d → is_wanted filter.Message k ≡ true
         → IsExtensionNumber g.types n (message_of (Some k)) → KeepsForExtensions os full n
     kind_kept (kind.Message i) full n d is knows wanted h = kept i full n d knows is h
-    kind_kept (kind.Enum i) full n d is knows wanted h = absurd (cc wanted)
-    kind_kept kind.Package full n d is knows wanted h = absurd (cc wanted)
-    kind_kept kind.Field full n d is knows wanted h = absurd (cc wanted)
-    kind_kept kind.Oneof full n d is knows wanted h = absurd (cc wanted)
-    kind_kept kind.EnumValue full n d is knows wanted h = absurd (cc wanted)
-    kind_kept (kind.Service i) full n d is knows wanted h = absurd (cc wanted)
-    kind_kept kind.Method full n d is knows wanted h = absurd (cc wanted)
-    kind_kept (kind.Extension i) full n d is knows wanted h = absurd (cc wanted)
+    kind_kept k full n d is knows wanted h = absurd (cc wanted)
 
     named_number : (scope : Text) (o : Option (String Global)) (number : Option ℤ)
         → IsResolved view_of filter.Message scope o
@@ -78,16 +71,9 @@ module _ (files : List FileDescriptorProto) (known : Known) (are : AreKnown file
         (kind_kept d.kind name n d refl found.1.known_as found.1.wanted at_number)
 
     pub kept_seen : HoldsOne files known are indexes sees t g at AreKept f
-    kept_seen d (of_file x) none h = tt
-    kept_seen d (of_message m) none h = tt
-    kept_seen d (of_field x) none h = tt
-    kept_seen d (of_oneof o) none h = tt
-    kept_seen d (of_enum k) none h = tt
-    kept_seen d (of_enum_value x) none h = tt
-    kept_seen d (of_service s) none h = tt
-    kept_seen d (of_method m) none h = tt
     kept_seen d (of_extension x) none h =
         let parts = none_both
         (reference_faults (at d.file) view_of filter.Message d.path d.name _ x.extendee) _ none in
         named_number d.name x.extendee x.number
         (resolved_one (at d.file) view_of d.path d.name filter.Message _ x.extendee parts.0) h.0
+    kept_seen d b none h = tt

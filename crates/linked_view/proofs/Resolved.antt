@@ -39,79 +39,31 @@ both k s p q a_message = p
 both k s p q (a_type n) = q n
 
 pub agree : (k : DefinitionKind) (s : Sort) → IsKindOf k s → Agree k s
-agree kind.Package (message_sort extensions reserved) h = absurd h
-agree kind.Package (enum_sort values) h = absurd h
-agree kind.Package service_sort h = absurd h
-agree kind.Package other_sort h = absurd h
 agree (kind.Message i) (message_sort extensions reserved) h = record { wanted = both _ _ refl (λ n. refl); holds = refl; plain = refl }
-agree (kind.Message i) (enum_sort values) h = absurd h
-agree (kind.Message i) service_sort h = absurd h
-agree (kind.Message i) other_sort h = absurd h
-agree kind.Field (message_sort extensions reserved) h = absurd h
-agree kind.Field (enum_sort values) h = absurd h
-agree kind.Field service_sort h = absurd h
-agree kind.Field other_sort h = record { wanted = both _ _ refl (λ n. refl); holds = refl; plain = refl }
-agree kind.Oneof (message_sort extensions reserved) h = absurd h
-agree kind.Oneof (enum_sort values) h = absurd h
-agree kind.Oneof service_sort h = absurd h
-agree kind.Oneof other_sort h = record { wanted = both _ _ refl (λ n. refl); holds = refl; plain = refl }
-agree (kind.Enum i) (message_sort extensions reserved) h = absurd h
 agree (kind.Enum i) (enum_sort values) h = record { wanted = both _ _ refl (λ n. refl); holds = refl; plain = refl }
-agree (kind.Enum i) service_sort h = absurd h
-agree (kind.Enum i) other_sort h = absurd h
-agree kind.EnumValue (message_sort extensions reserved) h = absurd h
-agree kind.EnumValue (enum_sort values) h = absurd h
-agree kind.EnumValue service_sort h = absurd h
-agree kind.EnumValue other_sort h = record { wanted = both _ _ refl (λ n. refl); holds = refl; plain = refl }
-agree (kind.Extension i) (message_sort extensions reserved) h = absurd h
-agree (kind.Extension i) (enum_sort values) h = absurd h
-agree (kind.Extension i) service_sort h = absurd h
-agree (kind.Extension i) other_sort h = record { wanted = both _ _ refl (λ n. refl); holds = refl; plain = refl }
-agree (kind.Service i) (message_sort extensions reserved) h = absurd h
-agree (kind.Service i) (enum_sort values) h = absurd h
 agree (kind.Service i) service_sort h = record { wanted = both _ _ refl (λ n. refl); holds = refl; plain = refl }
-agree (kind.Service i) other_sort h = absurd h
-agree kind.Method (message_sort extensions reserved) h = absurd h
-agree kind.Method (enum_sort values) h = absurd h
-agree kind.Method service_sort h = absurd h
+agree kind.Field other_sort h = record { wanted = both _ _ refl (λ n. refl); holds = refl; plain = refl }
+agree kind.Oneof other_sort h = record { wanted = both _ _ refl (λ n. refl); holds = refl; plain = refl }
+agree kind.EnumValue other_sort h = record { wanted = both _ _ refl (λ n. refl); holds = refl; plain = refl }
+agree (kind.Extension i) other_sort h = record { wanted = both _ _ refl (λ n. refl); holds = refl; plain = refl }
 agree kind.Method other_sort h = record { wanted = both _ _ refl (λ n. refl); holds = refl; plain = refl }
+agree k s h = absurd h
 
 -- packages are not wanted
 pub unwanted : (w : Want) (k : DefinitionKind) → is_package k ≡ true → is_wanted (filter_of w) k ≡ true → ⊥
 unwanted a_message kind.Package e h = cc h
 unwanted (a_type n) kind.Package e h = cc h
-unwanted w (kind.Message i) e h = cc e
-unwanted w kind.Field e h = cc e
-unwanted w kind.Oneof e h = cc e
-unwanted w (kind.Enum i) e h = cc e
-unwanted w kind.EnumValue e h = cc e
-unwanted w (kind.Extension i) e h = cc e
-unwanted w (kind.Service i) e h = cc e
-unwanted w kind.Method e h = cc e
+unwanted w k e h = cc e
 
 -- what is no package is seen where its file is
 seen_file : (sees : ℕ → Bool) (file : ℕ) (k : DefinitionKind) → is_package k ≡ false
     → is_seen sees (record { file = file; kind = k }) ≡ sees file
 seen_file sees file kind.Package e = absurd (cc e)
-seen_file sees file (kind.Message i) e = refl
-seen_file sees file kind.Field e = refl
-seen_file sees file kind.Oneof e = refl
-seen_file sees file (kind.Enum i) e = refl
-seen_file sees file kind.EnumValue e = refl
-seen_file sees file (kind.Extension i) e = refl
-seen_file sees file (kind.Service i) e = refl
-seen_file sees file kind.Method e = refl
+seen_file sees file k e = refl
 
 package_holds : (k : DefinitionKind) → is_package k ≡ true → kind_holds k ≡ true
 package_holds kind.Package e = refl
-package_holds (kind.Message i) e = refl
-package_holds kind.Field e = absurd (cc e)
-package_holds kind.Oneof e = absurd (cc e)
-package_holds (kind.Enum i) e = refl
-package_holds kind.EnumValue e = absurd (cc e)
-package_holds (kind.Extension i) e = absurd (cc e)
-package_holds (kind.Service i) e = refl
-package_holds kind.Method e = absurd (cc e)
+package_holds k e = absurd (cc e)
 
 decide : (b : Bool) → (b ≡ true) ⊎ (b ≡ false)
 decide true = inl refl
@@ -135,7 +87,7 @@ module _ (files : List FileDescriptorProto) (known : Known) (are : AreKnown file
       let i = contains_get files f.0 f.1 in
       (i.0, f.0, i.1, ap outline_of f.2 ∙ c.2)
 
-  pub wanted_to : (n : Text) → Wanted known sees (filter_of w) n → IsWanted os from w n
+  wanted_to : (n : Text) → Wanted known sees (filter_of w) n → IsWanted os from w n
   wanted_to n (d, h) = elim (decide (is_package d.kind)) [
     | inl packaged ↦ absurd (unwanted w d.kind packaged h.wanted)
     | inr plain ↦ (
@@ -152,7 +104,7 @@ module _ (files : List FileDescriptorProto) (known : Known) (are : AreKnown file
         ))
   ]
 
-  pub wanted_from : (n : Text) → IsWanted os from w n → Wanted known sees (filter_of w) n
+  wanted_from : (n : Text) → IsWanted os from w n → Wanted known sees (filter_of w) n
   wanted_from n (o, h, i, j, name, want, see) =
       let f = of_outline o i in
       let j' : Contains (outline_of (file_view f.1)).heads h =
@@ -168,7 +120,7 @@ module _ (files : List FileDescriptorProto) (known : Known) (are : AreKnown file
         },
       )
 
-  pub holds_to : (n : Text) → Holding known sees (filter_of w) n → HoldsNames os n
+  holds_to : (n : Text) → Holding known sees (filter_of w) n → HoldsNames os n
   holds_to n h = by (known n) refl where
     by : (x : Option Definition) → known n ≡ x → HoldsNames os n
     by None is = absurd (cc (sym (ap is_holder is) ∙ h))

@@ -10,7 +10,7 @@ use Rattle.reflect_scope.specs.declared.definition.DefinitionKind.{DefinitionKin
 use Rattle.reflect_scope.specs.declared.definition.DefinitionKind.TheVariants as kind
 use Rattle.reflect_declarations.specs.Tree.{MessageParts}
 use Rattle.reflect_walk.specs.MapEntries.{says_entry}
-use Rattle.reflect_declarations.specs.Declarations.{Declaration, Body, of_file, of_message, of_field, of_oneof, of_enum, of_enum_value, of_service, of_method, of_extension}
+use Rattle.reflect_declarations.specs.Declarations.{Declaration, Body, of_message, of_field, of_enum, of_extension}
 use Rattle.reflect_names.specs.Faults.{Fault, duplicate_number}
 use Rattle.reflect_names.specs.Names.{Places}
 use Rattle.reflect_tables.specs.Ranges.{Range, IsIn, IsRangeOf}
@@ -26,6 +26,7 @@ use Rattle.schema_view.specs.Scalars.{is_scalar, IsScalarDefault}
 use Rattle.schema_view.specs.Rules.{is_number, HasFieldNumber, HasOneof, HasType}
 use Rattle.schema_view.proofs.Renames.{map_same}
 use Rattle.linked_view.specs.Ruled.{IsRuledMessage, IsRuledField, IsRuled, IsPlacedField, IsNewer, IsMetField, IsExtensionNumber, IsMet}
+use Rattle.linked_messages.proofs.Numbers.{none_found, none_found_in}
 use Rattle.linked_view.proofs.Completes.{IsCompleteBody}
 use Rattle.linked_view.proofs.Defaults.{scalar_only, suited_to, suited_from}
 use Rattle.linked_view.proofs.Enums.{enum_to, enum_from}
@@ -92,14 +93,7 @@ suited_only : (values : Values) → IsDecided values → (number : Option ℤ) (
     → IsSuited values number m text suits → suits ≡ true
 suited_only values decided number None text suits h k = scalar_only number text suits h k
 suited_only values decided number (Some (kind.Enum i)) text suits h k = decided i text suits h k
-suited_only values decided number (Some kind.Package) text suits h k = absurd (cc h)
-suited_only values decided number (Some (kind.Message i)) text suits h k = absurd (cc h)
-suited_only values decided number (Some kind.Field) text suits h k = absurd (cc h)
-suited_only values decided number (Some kind.Oneof) text suits h k = absurd (cc h)
-suited_only values decided number (Some kind.EnumValue) text suits h k = absurd (cc h)
-suited_only values decided number (Some (kind.Service i)) text suits h k = absurd (cc h)
-suited_only values decided number (Some kind.Method) text suits h k = absurd (cc h)
-suited_only values decided number (Some (kind.Extension i)) text suits h k = absurd (cc h)
+suited_only values decided number m text suits h k = absurd (cc h)
 
 default_only : (values : Values) → IsDecided values → (number : Option ℤ)
     (m : Option DefinitionKind) (value : Option (String Global)) (suits : Bool)
@@ -208,28 +202,19 @@ module _ (g : Facts) (values : Values) (at : Places) (path : List ℤ) where
         × IsMetField g values m f
     field_to oneofs message there (r, e) =
         let n = number_of f in
-        let a = number_faults at path n in
-        let b = a ++ reserved_faults at path n r.reserved in
-        let c = b ++ kept_faults at path n r.kept in
-        let d = c ++ oneof_faults at path oneofs f.oneof_index in
-        let o = d ++ older_faults at path g.types g.first (message_of m) in
-        let last = none_both o (default_faults at path f.default_value r.suits) (sym e) in
-        let older = none_both d (older_faults at path g.types g.first (message_of m)) last.0 in
-        let oneof = none_both c (oneof_faults at path oneofs f.oneof_index) older.0 in
-        let kept = none_both b (kept_faults at path n r.kept) oneof.0 in
-        let reserved = none_both a (reserved_faults at path n r.reserved) kept.0 in
-        let suits = default_is at path values f.field_type m f.default_value r.suits r.is_suited last.1
-        in (
-          field_own there reserved.0 suits,
+        let found = none_found g values oneofs at path message f m (r, e) in
+        let suits = default_is at path values f.field_type m f.default_value r.suits r.is_suited
+        found.default in (
+          field_own there found.number suits,
           record {
             unreserved = subst (IsRangeOf (g.types.reserved message) n)
-                (reserved_to at path n r.reserved reserved.1) r.is_reserved;
+                (reserved_to at path n r.reserved found.reserved) r.is_reserved;
             no_extension = subst (IsRangeOf (g.types.extensions message) n)
-                (kept_to at path n r.kept kept.1) r.is_kept;
-            oneof = oneof_to at path oneofs f.oneof_index oneof.1;
+                (kept_to at path n r.kept found.kept) r.is_kept;
+            oneof = oneof_to at path oneofs f.oneof_index found.oneof;
           },
           record {
-            newer = newer_to at path g.types g.first (message_of m) older.1;
+            newer = newer_to at path g.types g.first (message_of m) found.older;
             default = λ n e. suits;
           },
         )
@@ -323,19 +308,13 @@ module _ (g : Facts) (values : Values) (at : Places) (path : List ℤ) where
         → IsRuledField (field_view f) × IsExtensionNumber g.types (number_of f) (message_of extendee)
         × IsMetField g values m f
     extension_to extendee there (r, e) =
-        let n = number_of f in
-        let a = number_faults at path n in
-        let b = a ++ r.numbers in
-        let o = b ++ older_faults at path g.types g.first (message_of m) in
-        let last = none_both o (default_faults at path f.default_value r.suits) (sym e) in
-        let older = none_both b (older_faults at path g.types g.first (message_of m)) last.0 in
-        let number = none_both a r.numbers older.0 in
-        let suits = default_is at path values f.field_type m f.default_value r.suits r.is_suited last.1
-        in (
-          field_own there number.0 suits,
-          numbered_to (message_of extendee) r.numbers r.is_number number.1,
+        let found = none_found_in g values at path f extendee m (r, e) in
+        let suits = default_is at path values f.field_type m f.default_value r.suits r.is_suited
+        found.default in (
+          field_own there found.number suits,
+          numbered_to (message_of extendee) r.numbers r.is_number found.numbers,
           record {
-            newer = newer_to at path g.types g.first (message_of m) older.1;
+            newer = newer_to at path g.types g.first (message_of m) found.older;
             default = λ n e. suits;
           },
         )
@@ -450,7 +429,6 @@ module _ (g : Facts) (values : Values) (p : Place) (at : Places) (d : Declaratio
 
   body_to : (b : Body) → IsCompleteBody (seen_body b) → IsTypedBody b
       → FaultsOf g values p at (with_body b) [] → IsClean g values p (with_body b)
-  body_to (of_file f) complete typed e = record { own = tt; placed = tt; met = tt }
   body_to (of_message m) complete typed e =
       let parts = message_to at d.path d.name m (g.uses d.index) typed (sym e) in
       record { own = parts.0; placed = tt; met = parts.1 }
@@ -459,52 +437,41 @@ module _ (g : Facts) (values : Values) (p : Place) (at : Places) (d : Declaratio
       let parts = field_to g values at d.path f m (meaning_none f.type_name p.rest) typed p.oneofs
       (parent_of d) complete.number e in
       record { own = parts.0; placed = parts.1; met = parts.2 }
-  body_to (of_oneof o) complete typed e = record { own = tt; placed = tt; met = tt }
   body_to (of_enum k) complete typed e =
       record { own = enum_to at d.path p.is_proto3 k (sym e); placed = tt; met = tt }
-  body_to (of_enum_value v) complete typed e = record { own = tt; placed = tt; met = tt }
-  body_to (of_service s) complete typed e = record { own = tt; placed = tt; met = tt }
-  body_to (of_method m) complete typed e = record { own = tt; placed = tt; met = tt }
   body_to (of_extension x) complete typed e =
       let rest = behind x.extendee p.rest in
       let parts = extension_to g values at d.path x (meaning x.type_name rest)
       (meaning_none x.type_name rest) typed (meaning x.extendee p.rest) complete.0.number e in
       record { own = parts.0; placed = tt; met = (parts.1, parts.2) }
+  body_to b complete typed e = record { own = tt; placed = tt; met = tt }
 
   body_from : (b : Body) → IsTypedBody b → IsClean g values p (with_body b)
       → FaultsOf g values p at (with_body b) []
-  body_from (of_file f) typed h = refl
   body_from (of_message m) typed h = sym (message_from at d.path d.name m (g.uses d.index) h.own h.met)
   body_from (of_field f) typed h =
       field_from g values at d.path f (meaning f.type_name p.rest) (meaning_none f.type_name p.rest) typed
       p.oneofs (parent_of d) h.own h.placed h.met
-  body_from (of_oneof o) typed h = refl
   body_from (of_enum k) typed h = sym (enum_from at d.path p.is_proto3 k h.own)
-  body_from (of_enum_value v) typed h = refl
-  body_from (of_service s) typed h = refl
-  body_from (of_method m) typed h = refl
   body_from (of_extension x) typed h =
       let rest = behind x.extendee p.rest in
       extension_from g values at d.path x (meaning x.type_name rest) (meaning_none x.type_name rest) typed
       (meaning x.extendee p.rest) h.own h.met.0 h.met.1
+  body_from b typed h = refl
 
   body_only : IsDecided values → (b : Body) → IsTypedBody b → IsClean g values p (with_body b)
       → (xs : List Fault) → FaultsOf g values p at (with_body b) xs → xs ≡ []
-  body_only decided (of_file f) typed h xs e = e
   body_only decided (of_message m) typed h xs e =
       e ∙ message_from at d.path d.name m (g.uses d.index) h.own h.met
   body_only decided (of_field f) typed h xs e =
       field_only g values at d.path f (meaning f.type_name p.rest) (meaning_none f.type_name p.rest) typed
       decided p.oneofs (parent_of d) h.own h.placed h.met xs e
-  body_only decided (of_oneof o) typed h xs e = e
   body_only decided (of_enum k) typed h xs e = e ∙ enum_from at d.path p.is_proto3 k h.own
-  body_only decided (of_enum_value v) typed h xs e = e
-  body_only decided (of_service s) typed h xs e = e
-  body_only decided (of_method m) typed h xs e = e
   body_only decided (of_extension x) typed h xs e =
       let rest = behind x.extendee p.rest in
       extension_only g values at d.path x (meaning x.type_name rest) (meaning_none x.type_name rest) typed
       decided (meaning x.extendee p.rest) h.own h.met.0 h.met.1 xs e
+  body_only decided b typed h xs e = e
 
 pub clean_to : (g : Facts) (values : Values) (p : Place) (at : Places) (d : Declaration)
     → IsCompleteBody (seen_body d.body) → IsTypedBody d.body → FaultsOf g values p at d []

@@ -18,7 +18,7 @@ use Rattle.schema_view.specs.Lawful.{outlines}
 use Rattle.schema_view.proofs.Lists.{contains_here, contains_there, contains_cases, contains_none, contains_map, contains_map_cases}
 use Rattle.schema_view.proofs.Renames.{map_same}
 use Rattle.linked_view.proofs.Counts.{IsPlaced}
-use Rattle.linked_view.proofs.NamedFiles.{names_in}
+use Rattle.linked_view.proofs.NamedFiles.{import_in, in_import, names_in}
 use Rattle.linked_view.proofs.Places.{get_contains, contains_get, index_map, found_in, in_found}
 use Rattle.linked_view.proofs.Walked.{text_seen}
 
@@ -76,29 +76,6 @@ import_placed publics k (s ∷ ts) t h = elim (contains_cases _ _ _ h) [
       let r = import_placed publics (k + 1) ts t j in
       let place : k + suc r.0 ≡ k + 1 + r.0 = omega arith in
       (suc r.0, r.1, ap (λ n. has_place n publics) place ∙ r.2))
-]
-
-some_import : (publics : List ℤ) (k : ℕ) (ts : List Text) (t : Text) → Contains ts t
-    → (i : Import) × Contains (imports_from publics k ts) i × (i.file ≡ t)
-some_import publics k [] t h = absurd (contains_none t h)
-some_import publics k (s ∷ ts) t h = by (contains_cases s ts t h) (some_import publics (k + 1) ts t)
-  where
-    here : Import
-    here = record { file = s; is_public = has_place k publics }
-
-    by : (s ≡ t) ⊎ Contains ts t
-        → (Contains ts t → (i : Import) × Contains (imports_from publics (k + 1) ts) i
-        × (i.file ≡ t))
-        → (i : Import) × Contains (imports_from publics k (s ∷ ts)) i × (i.file ≡ t)
-    by (inl e) rest = (here, contains_here here _, e)
-    by (inr j) rest = let r = rest j in (r.0, contains_there here _ r.0 r.1, r.2)
-
-file_imported : (publics : List ℤ) (k : ℕ) (ts : List Text) (i : Import)
-    → Contains (imports_from publics k ts) i → Contains ts i.file
-file_imported publics k [] i h = absurd (contains_none i h)
-file_imported publics k (t ∷ ts) i h = elim (contains_cases _ _ i h) [
-  | inl same ↦ subst (λ (x : Import). Contains (t ∷ ts) x.file) same (contains_here t ts)
-  | inr j ↦ contains_there t ts i.file (file_imported publics (k + 1) ts i j)
 ]
 
 -- files, their names and their links
@@ -271,7 +248,7 @@ module _ (indexes : Indexes) (links : List Links) (files : List FileDescriptorPr
       (subst (λ l. Contains l m) (imports_are i f e) start) in
       let k = file_at (string_bytes x.0) m x.2 in
       let t = contains_map string_bytes f.dependency.items x.0 x.1 in
-      let import = some_import f.public_dependency.items 0 (map string_bytes f.dependency.items)
+      let import = in_import f.public_dependency.items 0 (map string_bytes f.dependency.items)
       (string_bytes x.0) t in
       let more = chain_to ms m j k.0 g k.1 d chain in
       inr (
@@ -293,7 +270,7 @@ module _ (indexes : Indexes) (links : List Links) (files : List FileDescriptorPr
       inr (go ks (subst (λ n. IsChain os x.file ks n) (name_is g) chain)) where
         start : (m : ℕ) → indexes x.file ≡ Some m → Contains (imports_at links i) m
         start m known =
-            let t = file_imported f.public_dependency.items 0 (map string_bytes f.dependency.items) x h in
+            let t = import_in f.public_dependency.items 0 (map string_bytes f.dependency.items) x h in
             let s = contains_map_cases string_bytes f.dependency.items x.file t in
             subst (λ l. Contains l m) (sym (imports_are i f e))
             (in_found (file_of indexes) f.dependency.items s.0 m s.1 (ap indexes s.2 ∙ known))

@@ -6,17 +6,17 @@ use Rattle.std.specs.List.{AllByRecursion}
 use Rattle.std.specs.Ordering.{int_eq}
 use Rattle.std.specs.Cmp.Lexicographic.{bytes_decides}
 use Rattle.std.proofs.lemmas.Bool.Decides.{Decides-int_eq}
-use Rattle.descriptor_records.specs.Content.{Text, OptionsContent, text_view, options_view, field_view}
+use Rattle.descriptor_records.specs.Content.{Text, text_view, options_view, field_view}
 use Rattle.descriptor_records.specs.declared.field.FieldDescriptorProto.{FieldDescriptorProto}
 use Rattle.descriptor_records.specs.declared.options.Options.{Options}
-use Rattle.reflect_walk.specs.MapEntries.{is_true, says_entry}
+use Rattle.reflect_walk.specs.MapEntries.{says_entry}
 use Rattle.reflect_rules.specs.MapEntries.{has_name, is_optional, is_equal, is_part, is_key_type, share_oneof, are_key_and_value, has_entry_shape}
 use Rattle.schema_view.specs.Declarations.{FieldFacts, facts_of}
 use Rattle.schema_view.specs.Scalars.{scalar_type}
 use Rattle.schema_view.specs.Scalars as view
 use Rattle.schema_view.specs.Rules.{HasType, SaysEntry, IsPart, IsEntry, IsEntryType}
 use Rattle.linked_view.proofs.Counts.{bytes_same}
-use Rattle.linked_view.proofs.Enums.{equal_to, equal_from, said}
+use Rattle.linked_view.proofs.Enums.{equal_to, equal_from, said, said_back}
 
 abbrev seen : FieldDescriptorProto → FieldFacts
 seen f = facts_of (field_view f)
@@ -31,12 +31,7 @@ entry_to (Some o) e = (options_view o, refl, said o.map_entry e)
 
 pub entry_from : (o : Option Options) → SaysEntry (option_map options_view o) → says_entry o ≡ true
 entry_from None (x, e, is) = absurd (cc e)
-entry_from (Some o) (x, e, is) =
-    let same : o.map_entry ≡ x.map_entry = ap entry_of e in
-    ap is_true (same ∙ is) where
-      entry_of : Option OptionsContent → Option Bool
-      entry_of None = None
-      entry_of (Some y) = y.map_entry
+entry_from (Some o) (x, e, is) = said_back (λ y. y.map_entry) o x e is
 
 name_to : (o : Option (String Global)) (f : FieldDescriptorProto) (t : Text) → f.name ≡ o
     → has_name f t ≡ true → text_view f.name ≡ Some t

@@ -68,37 +68,21 @@ module _ (fs : List FileContent) where
       complete_one (of_extension x) is h = (given_field x h.0, h.1)
 
       fitting_one : (b : Body) → d.body ≡ b → IsFitting b
-      fitting_one (of_message m) is = tt
-      fitting_one (of_field x) is = tt
-      fitting_one (of_oneof o) is = tt
-      fitting_one (of_enum e) is = tt
       fitting_one (of_value v) is = λ n e.
           let own = value_number f d v i j is in
           let same : own.0 ≡ n = cc (sym own.1 ∙ e) in
           subst (FitsSigned w32) same own.2
-      fitting_one (of_service s) is = tt
-      fitting_one (of_method m) is = tt
-      fitting_one (of_extension x) is = tt
+      fitting_one b is = tt
 
     typed_one : (proto3 : Bool) (b : Body) → IsSound proto3 b → IsTyped b
-    typed_one p (of_message m) h = tt
     typed_one p (of_field x) h = h.type
-    typed_one p (of_oneof o) h = tt
-    typed_one p (of_enum e) h = tt
-    typed_one p (of_value v) h = tt
-    typed_one p (of_service s) h = tt
-    typed_one p (of_method m) h = tt
     typed_one p (of_extension x) h = h.0.type
+    typed_one p b h = tt
 
     labelled_one : (proto3 : Bool) (b : Body) → IsSound proto3 b → IsLabelled b
-    labelled_one p (of_message m) h = tt
     labelled_one p (of_field x) h = h.label
-    labelled_one p (of_oneof o) h = tt
-    labelled_one p (of_enum e) h = tt
-    labelled_one p (of_value v) h = tt
-    labelled_one p (of_service s) h = tt
-    labelled_one p (of_method m) h = tt
     labelled_one p (of_extension x) h = h.0.label
+    labelled_one p b h = tt
 
     ruled_one : (proto3 : Bool) (b : Body) → IsSound proto3 b → IsRuled proto3 b × IsRanged b
     ruled_one p (of_message m) h = (
@@ -106,12 +90,9 @@ module _ (fs : List FileContent) where
       record { unreserved = h.unreserved; no_extension = h.no_extension; oneofs = h.oneofs },
     )
     ruled_one p (of_field x) h = (record { number = h.number; default = h.default }, tt)
-    ruled_one p (of_oneof o) h = (tt, tt)
     ruled_one p (of_enum e) h = ((h.first, h.apart), tt)
-    ruled_one p (of_value v) h = (tt, tt)
-    ruled_one p (of_service s) h = (tt, tt)
-    ruled_one p (of_method m) h = (tt, tt)
     ruled_one p (of_extension x) h = (record { number = h.0.number; default = h.0.default }, tt)
+    ruled_one p b h = (tt, tt)
 
     pub sound_parts : Each IsComplete fs × Each IsTyped fs × Each IsLabelled fs × AreRuled fs
         × Each IsFitting fs

@@ -9,7 +9,7 @@ use Rattle.reflect_scope.specs.declared.definition.DefinitionKind.TheVariants as
 use Rattle.reflect_scope.specs.declared.definition.ResolveNameFilter.TheVariants as filter
 use Rattle.reflect_scope.specs.FileIndexes.{Indexes}
 use Rattle.reflect_scope.specs.Known.{Known}
-use Rattle.reflect_declarations.specs.Declarations.{of_file, of_message, of_field, of_oneof, of_enum, of_enum_value, of_service, of_method, of_extension}
+use Rattle.reflect_declarations.specs.Declarations.{of_field, of_extension}
 use Rattle.reflect_names.specs.Names.{Places}
 use Rattle.reflect_names.specs.References.{View, meaning_of, kind_meant, reference_faults}
 use Rattle.reflect_passes.specs.Linked.{enum_at, HasValue, linked_values}
@@ -52,14 +52,7 @@ module _ (files : List FileDescriptorProto) (known : Known) (are : AreKnown file
         → d.kind ≡ k → known full ≡ Some d → IsSuited (linked_values t) type (Some k) text true
         → IsValueOf os full text
     kind_value type (kind.Enum i) full text d is knows h = valued i full text d knows is (h.0 refl)
-    kind_value type kind.Package full text d is knows h = absurd (cc h)
-    kind_value type (kind.Message i) full text d is knows h = absurd (cc h)
-    kind_value type kind.Field full text d is knows h = absurd (cc h)
-    kind_value type kind.Oneof full text d is knows h = absurd (cc h)
-    kind_value type kind.EnumValue full text d is knows h = absurd (cc h)
-    kind_value type (kind.Service i) full text d is knows h = absurd (cc h)
-    kind_value type kind.Method full text d is knows h = absurd (cc h)
-    kind_value type (kind.Extension i) full text d is knows h = absurd (cc h)
+    kind_value type k full text d is knows h = absurd (cc h)
 
     named_default : (scope : Text) (type : Option ℤ) (o given : Option (String Global))
         → IsResolved view_of filter.FieldType scope o
@@ -82,18 +75,12 @@ module _ (files : List FileDescriptorProto) (known : Known) (are : AreKnown file
         (kind_value type d.kind name (string_bytes v) d refl found.1.known_as suited))
 
     pub suits_seen : HoldsOne files known are indexes sees t g at Suits f
-    suits_seen d (of_file x) none h = tt
-    suits_seen d (of_message m) none h = tt
     suits_seen d (of_field x) none h =
         named_default d.name x.field_type x.type_name x.default_value
         (resolved_type (at d.file) view_of d.path d.name x none) h.default
-    suits_seen d (of_oneof o) none h = tt
-    suits_seen d (of_enum k) none h = tt
-    suits_seen d (of_enum_value x) none h = tt
-    suits_seen d (of_service s) none h = tt
-    suits_seen d (of_method m) none h = tt
     suits_seen d (of_extension x) none h =
         let parts = none_both
         (reference_faults (at d.file) view_of filter.Message d.path d.name _ x.extendee) _ none in
         named_default d.name x.field_type x.type_name x.default_value
         (resolved_type (at d.file) view_of d.path d.name x parts.1) h.1.default
+    suits_seen d b none h = tt

@@ -17,14 +17,7 @@ use Rattle.linked_view.specs.Taken.{type_of, names_of, in_order}
 
 filled_is : (k : DefinitionKind) → filled None k ≡ Some (type_of k)
 filled_is kind.Package = refl
-filled_is (kind.Message i) = refl
-filled_is kind.Field = refl
-filled_is kind.Oneof = refl
-filled_is (kind.Enum i) = refl
-filled_is kind.EnumValue = refl
-filled_is (kind.Extension i) = refl
-filled_is (kind.Service i) = refl
-filled_is kind.Method = refl
+filled_is k = refl
 
 -- references of several declarations
 abbrev refs_in : List Declaration → List Reference
@@ -246,7 +239,7 @@ module _ (targets : Reference → pass.Target) where
         ∙ ap (λ (p : MessageContents × List pass.Target).
         (more_messages (rename_message names scope m) p.0, p.1)) (messages_written scope ms rest)
 
-  pub file_written : (f : FileContent) (rest : List pass.Target)
+  file_written : (f : FileContent) (rest : List pass.Target)
       → write_file (in_order targets f ++ rest) f ≡ (rename_references names f, rest)
   file_written f rest =
       let n = package_of f in

@@ -19,7 +19,7 @@ use Rattle.reflect_scope.specs.declared.definition.Definition.{Definition}
 use Rattle.reflect_scope.specs.declared.definition.DefinitionKind.TheVariants as kind
 use Rattle.reflect_scope.specs.declared.definition.ResolveNameFilter.TheVariants as filter
 use Rattle.reflect_tables.specs.Names.{FullName, AreFound, found, messages}
-use Rattle.reflect_declarations.specs.Declarations.{of_file, of_message, of_field, of_oneof, of_enum, of_enum_value, of_service, of_method, of_extension}
+use Rattle.reflect_declarations.specs.Declarations.{of_file, of_field, of_extension}
 use Rattle.schema_view.specs.Declarations as view
 use Rattle.schema_view.specs.Declarations.{Declaration, declarations}
 use Rattle.schema_view.specs.Lawful.{outlines, is_dotted, is_use, times_by, IsMapUse, IsOneMap}
@@ -68,14 +68,9 @@ unused_from full fs none f d i j = by (is_use full d.body) refl where
       absurd (omega (arith, none, outer, inner, one))
 
 unused_map : (full : Text) (b : view.Body) → is_use full b ≡ false → IsMapUse full b
-unused_map full (view.of_message m) none = tt
 unused_map full (view.of_field f) none = λ e. absurd (cc (sym e ∙ none))
-unused_map full (view.of_oneof o) none = tt
-unused_map full (view.of_enum e) none = tt
-unused_map full (view.of_value v) none = tt
-unused_map full (view.of_service s) none = tt
-unused_map full (view.of_method m) none = tt
 unused_map full (view.of_extension x) none = λ e. absurd (cc (sym e ∙ none))
+unused_map full b none = tt
 
 times_both : (full : Text) (a b : List FileContent) → times_by (is_use full) (a ++ b)
     ≡ times_by (is_use full) a + times_by (is_use full) b
@@ -164,20 +159,15 @@ module _ (files : List FileDescriptorProto) (known : Known) (are : AreKnown file
 
     pub unused_seen : HoldsOne files known are indexes sees t g at IsUnused f
     unused_seen d (of_file x) none h = tt
-    unused_seen d (of_message m) none h = refl
     unused_seen d (of_field x) none h =
         not_written (at d.file) d.path d.name x.field_type x.type_name
         (resolved_type (at d.file) view_of d.path d.name x none) h.newer
-    unused_seen d (of_oneof o) none h = refl
-    unused_seen d (of_enum k) none h = refl
-    unused_seen d (of_enum_value x) none h = refl
-    unused_seen d (of_service s) none h = refl
-    unused_seen d (of_method m) none h = refl
     unused_seen d (of_extension x) none h =
         let parts = none_both
         (reference_faults (at d.file) view_of filter.Message d.path d.name _ x.extendee) _ none in
         not_written (at d.file) d.path d.name x.field_type x.type_name
         (resolved_type (at d.file) view_of d.path d.name x parts.1) h.1.newer
+    unused_seen d b none h = refl
 
 -- ---- a new type, by older files
 
@@ -197,12 +187,7 @@ refers_to full n (view.of_field f) e = used_reference full n f.field_type f.type
 refers_to full n (view.of_extension x) e =
     let u = used_reference full n x.field_type x.type_name e in
     (u.0, Contains-append_right (to_message n x.extendee) (to_type n x.field_type x.type_name) u.0 u.1, u.2)
-refers_to full n (view.of_message m) e = absurd (cc e)
-refers_to full n (view.of_oneof o) e = absurd (cc e)
-refers_to full n (view.of_enum k) e = absurd (cc e)
-refers_to full n (view.of_value v) e = absurd (cc e)
-refers_to full n (view.of_service s) e = absurd (cc e)
-refers_to full n (view.of_method m) e = absurd (cc e)
+refers_to full n b e = absurd (cc e)
 
 declared_often : (os : List Outline) (full : Text) (s : Sort) → IsDeclared os full s
     → 1 ≤ times_declared full os

@@ -1,5 +1,5 @@
 -- How often the type of a map's entries is used in a batch, by its name and by its index.
-use Rattle.std.proofs.Common.{◌≡◌, ◌∙◌, ℕ, ℤ, pos, negsuc, Bool, true, false, not, ◌||◌, ◌&&◌, ◌==◌, cond, bytes_eq, List, [], ◌∷◌, ◌++◌, Option, Some, None, String, Global, string_bytes, map, length, slice_get, append_assoc, ap, sym, refl, arith}
+use Rattle.std.proofs.Common.{◌≡◌, ◌∙◌, ℕ, ℤ, pos, negsuc, Bool, true, false, not, ◌||◌, ◌&&◌, ◌==◌, cond, bytes_eq, List, [], ◌∷◌, ◌++◌, Option, Some, None, String, Global, string_bytes, map, length, slice_get, ap, sym, refl, arith}
 use Rattle.std.specs.List.{AllZip, Contains, filter}
 use Rattle.std.specs.Ordering.{int_eq}
 use Rattle.std.proofs.lemmas.Bool.Decides.{Decides-int_eq}
@@ -14,7 +14,7 @@ use Rattle.reflect_scope.specs.Known.{Known}
 use Rattle.reflect_scope.specs.Means.{means}
 use Rattle.reflect_declarations.specs.Declarations.{Declaration, Body, of_file, of_message, of_field, of_oneof, of_enum, of_enum_value, of_service, of_method, of_extension}
 use Rattle.reflect_names.specs.Names.{Places}
-use Rattle.reflect_names.specs.References.{View, Target, meaning_of, kind_meant, is_in, suits, mismatch, unmet, label_faults, type_faults, field_reference_faults, type_name_faults, reference_faults, reference_faults_at, name_targets, targets_of}
+use Rattle.reflect_names.specs.References.{View, Target, meaning_of, kind_meant, is_in, suits, mismatch, unmet, label_faults, type_faults, field_reference_faults, type_name_faults, reference_faults, reference_faults_at, targets_of}
 use Rattle.reflect_names.specs.ReferencePass.{views_of, targets_along, reference_faults_along}
 use Rattle.reflect_names.specs.ReferenceSteps.{target_of}
 use Rattle.reflect_names.specs.declared.resolve_visitor.Reference.{Reference}
@@ -28,9 +28,8 @@ use Rattle.reflect_tables.specs.Names.{FullName, AreFound, found, place_in, plac
 use Rattle.schema_view.specs.Lawful.{is_dotted}
 use Rattle.linked_view.specs.AtHand.{kind_by}
 use Rattle.linked_view.specs.Taken.{type_of}
-use Rattle.linked_view.proofs.AtHand.{IsResolved, at_hand, resolved_one, resolved_type}
+use Rattle.linked_view.proofs.AtHand.{IsResolved, at_hand, extension_at_hand, left_behind, resolved_type}
 use Rattle.linked_view.proofs.Counts.{bytes_same}
-use Rattle.linked_view.proofs.Extensions.{left_behind}
 use Rattle.linked_view.proofs.Faults.{none_both, unless_to}
 use Rattle.linked_view.proofs.Linked.{found_by}
 use Rattle.descriptor_records.specs.Content.{FileContent, text_view}
@@ -187,14 +186,7 @@ module _ (names : List FullName) (known : Known) (are : AreFound (found messages
       at : (b : Bool) → (j == i) ≡ b → false ≡ (j == i && says.is_entry j)
       at true is = absurd (apart (let same : j ≡ i = grind (arith, is) in ap kind.Message same))
       at false is = sym (ap (λ a. a && says.is_entry j) is)
-    other kind.Package apart = refl
-    other kind.Field apart = refl
-    other kind.Oneof apart = refl
-    other (kind.Enum j) apart = refl
-    other kind.EnumValue apart = refl
-    other (kind.Service j) apart = refl
-    other kind.Method apart = refl
-    other (kind.Extension j) apart = refl
+    other k apart = refl
 
     by : (b : Bool) → bytes_eq (46 ∷ n) (46 ∷ full) ≡ b
         → bytes_eq (46 ∷ n) (46 ∷ full) ≡ is_entry_at says i (message_of (Some k))
@@ -293,8 +285,6 @@ module _ (names : List FullName) (known : Known) (are : AreFound (found messages
         → AllZip IsUseOf (filter test us) fs
         → AllZip IsUseOf (filter test (uses_by (views d.file) (record d { body = b }) ++ us))
         (users_in says i rest (record d { body = b }) ++ fs)
-    one_used rest d (of_file f) more us fs none e z = z
-    one_used rest d (of_message m) more us fs none e z = z
     one_used rest d (of_field f) more us fs none e z =
         let v = views d.file in
         let resolved = resolved_type (at d.file) v d.path d.name f none in
@@ -304,27 +294,18 @@ module _ (names : List FullName) (known : Known) (are : AreFound (found messages
         (test_same v refl (at d.file) d.path d.name f.type_name resolved
         ∙ ap (λ k. is_entry_at says i (message_of k)) (sym hand.kind))
         (use_is v refl (at d.file) d.path d.name f none) z
-    one_used rest d (of_oneof o) more us fs none e z = z
-    one_used rest d (of_enum k) more us fs none e z = z
-    one_used rest d (of_enum_value x) more us fs none e z = z
-    one_used rest d (of_service s) more us fs none e z = z
-    one_used rest d (of_method m) more us fs none e z = z
     one_used rest d (of_extension x) more us fs none e z =
         let v = views d.file in
         let parts = none_both (reference_faults (at d.file) v filter.Message d.path d.name _ x.extendee) _
         none in
-        let second = name_targets v filter.FieldType d.name x.type_name in
-        let first = at_hand v filter.Message d.name x.extendee rest (second ++ more)
-        (resolved_one (at d.file) v d.path d.name filter.Message _ x.extendee parts.0)
-        (e ∙ append_assoc (name_targets v filter.Message d.name x.extendee) second more) in
         let resolved = resolved_type (at d.file) v d.path d.name x parts.1 in
-        let hand = at_hand v filter.FieldType d.name x.type_name (behind x.extendee rest) more resolved
-        first.left in
+        let hand = (extension_at_hand (at d.file) v d x rest more none e).1 in
         one_use (use_seen v d.name x) x (filter test us) fs (is_dotted full (type_by v d.name x.type_name))
         (is_entry_at says i (message_of (meaning x.type_name (behind x.extendee rest))))
         (test_same v refl (at d.file) d.path d.name x.type_name resolved
         ∙ ap (λ k. is_entry_at says i (message_of k)) (sym hand.kind))
         (use_is v refl (at d.file) d.path d.name x parts.1) z
+    one_used rest d b more us fs none e z = z
 
     -- those that write the name are the users of the index
     pub used : (rest : List Reference) (ds : List Declaration)
@@ -334,7 +315,7 @@ module _ (names : List FullName) (known : Known) (are : AreFound (found messages
     used rest (d ∷ ds) none e =
         let parts = none_both (reference_faults_at (at d.file) (views d.file) d)
         (reference_faults_along at views ds) none in
-        let left = left_behind names known are sees at rest d d.body (targets_along views ds) parts.0 e in
+        let left = left_behind views at rest d d.body (targets_along views ds) parts.0 e in
         one_used rest d d.body (targets_along views ds) (uses_along views ds)
         (users says i (rest_behind d rest) ds) parts.0 e (used (rest_behind d rest) ds parts.1 left)
 
@@ -397,15 +378,9 @@ module _ (files : List FileDescriptorProto) (known : Known) (are : AreKnown file
   body_uses : (f : FileContent) (d : Declaration) (b : Body)
       → uses_by (see_of f) (record d { body = b })
       ≡ listed_seen uses_by uses_of files known are indexes sees f (seen (record d { body = b }))
-  body_uses f d (of_file x) = refl
-  body_uses f d (of_message m) = refl
   body_uses f d (of_field x) = field_seen f d x
-  body_uses f d (of_oneof o) = refl
-  body_uses f d (of_enum k) = refl
-  body_uses f d (of_enum_value x) = refl
-  body_uses f d (of_service s) = refl
-  body_uses f d (of_method m) = refl
   body_uses f d (of_extension x) = field_seen f d x
+  body_uses f d b = refl
 
   pub gives_uses : GivesSame uses_by uses_of files known are indexes sees
   gives_uses = record { none = λ v i f. refl; one = body_uses }

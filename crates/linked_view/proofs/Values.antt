@@ -68,10 +68,6 @@ one_kept : (h : AtHand) (d : Declaration) (b : Body) (ms : List Met) (es : List 
     → AllZip IsHeadOf (cond (is_enum b) (met h (record d { body = b }) ∷ ms) ms) (map enum_head ys)
     → map stored_values ys ≡ map declared_values (enum_in b ++ es)
     → map kept_by ys ≡ values_by (record d { body = b }) ++ ks
-one_kept h d (of_file f) ms es ks ys later z e = later ys z e
-one_kept h d (of_message m) ms es ks ys later z e = later ys z e
-one_kept h d (of_field f) ms es ks ys later z e = later ys z e
-one_kept h d (of_oneof o) ms es ks ys later z e = later ys z e
 one_kept h d (of_enum k) ms es ks [] later z e = absurd z
 one_kept h d (of_enum k) ms es ks (y ∷ ys) later z e =
     let first : stored_values y ≡ declared_values k = cc e in
@@ -80,10 +76,7 @@ one_kept h d (of_enum k) ms es ks (y ∷ ys) later z e =
     (ap (λ (x : Head). x.full_name) z.0)
     ∙ ap (λ (vs : List NumberedValue). (d.name, vs) ∷ map kept_by ys) (same_values k y first)
     ∙ ap (λ xs. (d.name, map numbered_value (enum_view k).value) ∷ xs) (later ys z.1 rest)
-one_kept h d (of_enum_value x) ms es ks ys later z e = later ys z e
-one_kept h d (of_service s) ms es ks ys later z e = later ys z e
-one_kept h d (of_method m) ms es ks ys later z e = later ys z e
-one_kept h d (of_extension x) ms es ks ys later z e = later ys z e
+one_kept h d b ms es ks ys later z e = later ys z e
 
 pub values_kept : (h : AtHand) (ds : List Declaration) (ys : List StoredEnum)
     → AllZip IsHeadOf (all_of is_enum (along h ds)) (map enum_head ys)
@@ -107,14 +100,7 @@ values_seen s = elim s.1 [ None ↦ [] | Some b ↦ values_in (record { name = s
 body_values : (d : Declaration) (b : Body) → values_by (record d { body = b })
     ≡ values_seen (seen (record d { body = b }))
 body_values d (of_file x) = refl
-body_values d (of_message m) = refl
-body_values d (of_field x) = refl
-body_values d (of_oneof o) = refl
-body_values d (of_enum k) = refl
-body_values d (of_enum_value x) = refl
-body_values d (of_service s) = refl
-body_values d (of_method m) = refl
-body_values d (of_extension x) = refl
+body_values d b = refl
 
 along_values : (ds : List Declaration) → values_along ds ≡ flat_map values_seen (map seen ds)
 along_values [] = refl
@@ -133,13 +119,7 @@ module _ (names : Reference → Target) where
       → values_in (renamed names (record { name = n; body = b }))
       ≡ values_in (record { name = n; body = b })
   stay n (view.of_message m) = refl
-  stay n (view.of_field f) = refl
-  stay n (view.of_oneof o) = refl
-  stay n (view.of_enum e) = refl
-  stay n (view.of_value v) = refl
-  stay n (view.of_service s) = refl
-  stay n (view.of_method m) = refl
-  stay n (view.of_extension x) = refl
+  stay n b = refl
 
   all_stay : (vs : List view.Declaration) → flat_map values_in (map (renamed names) vs)
       ≡ flat_map values_in vs

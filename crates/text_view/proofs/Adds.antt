@@ -72,7 +72,7 @@ module _ (old new : DynamicMessage) (apart : AreApart old.descriptor.pool.now) (
   changed (targets.Extension x) vs owns frees adds h stands =
       extension_changed old new same x owns adds.0.0 adds.0.1 adds.0.2 h stands type (ap oneof_of (extension_there d apart x owns)) (no_field_there d apart x owns)
 
-  pub list_added : (t : Target) → OwnsTarget d t → holds_list pool (target_type t) ≡ true → (vs before : List Value) → items_held (held_by old t) ≡ Some before → AddsValues t vs old new
+  list_added : (t : Target) → OwnsTarget d t → holds_list pool (target_type t) ≡ true → (vs before : List Value) → items_held (held_by old t) ≡ Some before → AddsValues t vs old new
       → view new ≡ assign type (target_type t).number (if_any (items (view old (target_type t).number) ++ map content_view vs)) (view old)
   list_added t owns is_list vs before held adds =
       let its_list = subst (λ p. holds_list p (target_type t) ≡ true) (sym (pool_is d apart t owns)) is_list in

@@ -26,7 +26,7 @@ use Rattle.message_view.specs.Sound.{AreApart, IsNotKept}
 use Rattle.text_view.specs.Targets.{target_field}
 use Rattle.reflect_message.proofs.Known.{numbered}
 
-pub any_default : {X : Type 0} (xs : List X) (k : ℕ) (d e : X) → k < length xs → slice_index_or xs k d ≡ slice_index_or xs k e
+any_default : {X : Type 0} (xs : List X) (k : ℕ) (d e : X) → k < length xs → slice_index_or xs k d ≡ slice_index_or xs k e
 any_default [] k d e lt = absurd (omega (arith, lt))
 any_default (x ∷ xs) zero d e lt = refl
 any_default (x ∷ xs) (suc k) d e lt = any_default xs k d e (omega (arith, lt))

@@ -213,7 +213,7 @@ module _ (old next : DynamicMessage) (same : next.descriptor ≡ old.descriptor)
       let two = number_shape (HasShape e l) between next its_sound 2 (blob (message_bytes body)) types.bytes ((λ h. h), λ p h. h) (λ h. h) later lone its_shape in
       (subst (λ (c : MessageDescriptor). IsShapely (HasShape e l) c.pool.now c.index (content_of next)) typed two.0, λ h. two.1 (one.1 h))
 
-  pub name_shape : (name : FieldName) → Names name (IsGiven g) (AreGiven g) (FillsBody g) old next → After
+  name_shape : (name : FieldName) → Names name (IsGiven g) (AreGiven g) (FillsBody g) old next → After
   name_shape (plain v) (t, name, assigns) = target_shape t (named_target d sound.apart v t (inl name)) assigns
   name_shape (extension v) (t, name, assigns) = target_shape t (named_target d sound.apart (written v) t (inr name)) assigns
   name_shape (expansion domain v) h = held_shape _ h.1 h.5
@@ -267,7 +267,7 @@ module _ (e : Bool) (q : PoolType) (sound : IsSound q) where
   alone_shape l k v h vs is = subst (AllByRecursion (IsFit (Both e l) k)) (sym is) (h, tt)
 
   mutual
-    pub fields_shape : (fs : Fields) → FieldsShaped fs
+    fields_shape : (fs : Fields) → FieldsShaped fs
     fields_shape no_fields l le old new at shape same = (
       subst (λ m. IsShapely (HasShape e l) q old.descriptor.index (content_of m)) (sym same) shape,
       λ h. subst IsExclusive (sym same) h,

@@ -120,9 +120,6 @@ module _ (m : MessageDescriptor) (w : Text) where
           let f = first_is w x is in
           (Some f.0, f.2, (f.1, ap (λ (t : FieldType). t.group) f.3 ∙ in_tags))
 
-  lower : Text
-  lower = map to_ascii_lowercase w
-
   group_called : (f : FieldDescriptor) → f.message ≡ m → IsGroupCalled f w → (field_type f).group && is_type_called m.pool.now w (field_type f).kind ≡ true
   group_called f is h =
       ap (λ b. b && is_type_called m.pool.now w (field_type f).kind) h.0

@@ -31,7 +31,7 @@ use Rattle.text_view.proofs.Rivals.{no_many}
 use Rattle.message_view.proofs.Sound.{found_at}
 
 -- a type that has entries is there
-pub entry_there : (ms : List MessageType) (c : ℕ) (e : StoredEntry) → (slice_index_or ms c no_type).entry ≡ Some e → c < length ms
+entry_there : (ms : List MessageType) (c : ℕ) (e : StoredEntry) → (slice_index_or ms c no_type).entry ≡ Some e → c < length ms
 entry_there [] c e is = absurd (cc is)
 entry_there (m ∷ ms) zero e is = omega arith
 entry_there (m ∷ ms) (suc c) e is = let lt = entry_there ms c e is in omega (arith, lt)
@@ -56,43 +56,15 @@ entry_kind pool t e = absurd (cc e)
 
 -- the kinds of keys are those of no enums
 key_no_enum : (t : KindType) → IsKeyKind t → scalar_of t ≡ kinds.enumeration → ⊥
-key_no_enum types.double h e = cc e
-key_no_enum types.float h e = cc e
-key_no_enum types.int32 h e = cc e
-key_no_enum types.int64 h e = cc e
-key_no_enum types.uint32 h e = cc e
-key_no_enum types.uint64 h e = cc e
-key_no_enum types.sint32 h e = cc e
-key_no_enum types.sint64 h e = cc e
-key_no_enum types.fixed32 h e = cc e
-key_no_enum types.fixed64 h e = cc e
-key_no_enum types.sfixed32 h e = cc e
-key_no_enum types.sfixed64 h e = cc e
-key_no_enum types.bool h e = cc e
-key_no_enum types.string h e = cc e
 key_no_enum types.bytes h e = h
 key_no_enum (types.message i) h e = h
 key_no_enum (types.enumeration i) h e = h
+key_no_enum t h e = cc e
 
 -- without a default of its own a field has that of its kind
 kind_small : (pool : PoolType) (k : KindType) → AreBytes (elim (kind_default pool k) [ None ↦ text [] | Some v ↦ single_view v ])
 kind_small pool types.double = tt
-kind_small pool types.float = tt
-kind_small pool types.int32 = tt
-kind_small pool types.int64 = tt
-kind_small pool types.uint32 = tt
-kind_small pool types.uint64 = tt
-kind_small pool types.sint32 = tt
-kind_small pool types.sint64 = tt
-kind_small pool types.fixed32 = tt
-kind_small pool types.fixed64 = tt
-kind_small pool types.sfixed32 = tt
-kind_small pool types.sfixed64 = tt
-kind_small pool types.bool = tt
-kind_small pool types.string = tt
-kind_small pool types.bytes = tt
-kind_small pool (types.message i) = tt
-kind_small pool (types.enumeration i) = tt
+kind_small pool k = tt
 
 small_default : (pool : PoolType) (g : FieldType) → g.default ≡ None → AreBytes (default_of pool g)
 small_default pool g e =

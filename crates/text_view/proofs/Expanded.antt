@@ -76,7 +76,7 @@ module _ (old new : DynamicMessage) (apart : AreApart old.descriptor.pool.now) (
     none (inr h) = whole.1 (field_pool f) (subst (HasFloats (field_pool f)) its_lone.0 h.1)
 
   -- the number's field gets the value
-  pub number_set : IsExclusive old → new.descriptor ≡ old.descriptor → view new ≡ assign (field_at pool d.index) n (settle (target_field d (targets.Field f)).part x) (view old)
+  number_set : IsExclusive old → new.descriptor ≡ old.descriptor → view new ≡ assign (field_at pool d.index) n (settle (target_field d (targets.Field f)).part x) (view old)
   number_set exclusive same =
       let type = field_at pool d.index in
       field_put old new same f sets.1 number_owns exclusive sets.5 (inl (x, sets.4)) type (λ n. refl)
@@ -84,7 +84,7 @@ module _ (old new : DynamicMessage) (apart : AreApart old.descriptor.pool.now) (
       ∙ ap (λ p. assign type (field_type f).number (settle p x) (view old)) (sym (one_part pool (field_type f) its_lone.1.1))
       ∙ ap (λ k. assign type k (settle (target_field d (targets.Field f)).part x) (view old)) sets.3
 
-  pub number_there : field_at pool d.index n ≡ Some (target_field d (targets.Field f))
+  number_there : field_at pool d.index n ≡ Some (target_field d (targets.Field f))
   number_there = ap (field_at pool d.index) (sym sets.3) ∙ target_there d apart (targets.Field f) number_owns
 
   pub number_kinds : HasForm (scalar_of kind) x → (IsMessageType kind → ⊥) → HoldsKinds old → new.descriptor ≡ old.descriptor → HoldsKinds new

@@ -79,7 +79,7 @@ module _ (decoded : Name → Text → Option Message) (pool : PoolType) (sound :
       (ap (option_map (λ c. c ∷ [])) h.0 ∙ ap (λ us. Some (map content_view us)) (sym is), subst (AllByRecursion (IsGood k)) (sym is) (h.1, tt))
 
   mutual
-    pub fields_known : (fs : Fields) → FieldsKnown fs
+    fields_known : (fs : Fields) → FieldsKnown fs
     fields_known no_fields old new at exclusive kinds e = (
       ap (λ m. Some (view m)) (sym e),
       ap (λ (m : DynamicMessage). m.descriptor) e,
@@ -150,7 +150,7 @@ module _ (decoded : Name → Text → Option Message) (pool : PoolType) (sound :
     by k at bad = refl
 
   mutual
-    pub fields_unfit : (fs : Fields) → FieldsUnfit fs
+    fields_unfit : (fs : Fields) → FieldsUnfit fs
     fields_unfit no_fields m at exclusive kinds h = absurd h
     fields_unfit (more_fields name g sep fs) m at exclusive kinds (inl h) =
         ap (option_and_then (value w (shape_at pool m.descriptor.index) fs)) (refused_at decoded m kinds name g h pool at sound (given_unfit g))

@@ -1,5 +1,6 @@
 -- Values that texts give have the form of their kind.
-use Rattle.std.proofs.Common.{◌≡◌, ◌==◌, ℕ, ℤ, Bool, true, false, cond, Option, Some, None, option_map, unwrap_or, refl, sym, ap, ◌∙◌, subst, rules, string_bytes}
+use Rattle.std.proofs.Common.{◌≡◌, ◌==◌, ℕ, ℤ, Bool, true, false, cond, Option, Some, None, option_map, refl, sym, ap, ◌∙◌, subst, rules, string_bytes}
+use Rattle.std.proofs.lemmas.Option.{same_Some}
 use Rattle.protox_lex.specs.Class.{Text}
 use Rattle.protobuf_model.specs.Scalars.{Suits}
 use Rattle.protobuf_model.specs.Types.{Scalar}
@@ -31,11 +32,8 @@ use Rattle.message_view.proofs.Keys.{form_of, key_single}
 use Rattle.text_view.specs.Holds.{HasForm, IsOfKind}
 use Rattle.text_view.proofs.Puts.{message_is}
 
-same_of : (y x : Single) → Some y ≡ Some x → y ≡ x
-same_of y x e = ap (λ o. unwrap_or o y) e
-
 only : (k : Scalar) (b : Bool) (y x : Single) → HasForm k y → cond b (Some y) None ≡ Some x → HasForm k x
-only k true y x h e = subst (HasForm k) (same_of y x e) h
+only k true y x h e = subst (HasForm k) (same_Some y x e) h
 only k false y x h e = absurd (cc e)
 
 integer_form : (k : Scalar) (minus : Bool) (n : ℕ) (x : Single) → integer_in k minus n ≡ Some x → HasForm k x
@@ -52,7 +50,7 @@ integer_form kinds.uint64 false n x e = only kinds.uint64 _ _ x tt e
 integer_form kinds.fixed64 false n x e = only kinds.fixed64 _ _ x tt e
 integer_form kinds.bool false n x e = by (n == 0) e where
   by : (a : Bool) → cond a (Some (model.truth false)) (cond (n == 1) (Some (model.truth true)) None) ≡ Some x → HasForm kinds.bool x
-  by true h = subst (HasForm kinds.bool) (same_of (model.truth false) x h) tt
+  by true h = subst (HasForm kinds.bool) (same_Some (model.truth false) x h) tt
   by false h = only kinds.bool (n == 1) (model.truth true) x tt h
 integer_form k true n x e = absurd (cc e)
 integer_form k false n x e = absurd (cc e)
@@ -60,21 +58,21 @@ integer_form k false n x e = absurd (cc e)
 identifier_form : (enum : Text → Option ℤ) (k : Scalar) (w : Text) (x : Single) → identifier_in enum k w ≡ Some x → HasForm k x
 identifier_form enum kinds.bool w x e = by (is_true w) e where
   by : (a : Bool) → cond a (Some (model.truth true)) (cond (is_false w) (Some (model.truth false)) None) ≡ Some x → HasForm kinds.bool x
-  by true h = subst (HasForm kinds.bool) (same_of (model.truth true) x h) tt
+  by true h = subst (HasForm kinds.bool) (same_Some (model.truth true) x h) tt
   by false h = only kinds.bool (is_false w) (model.truth false) x tt h
 identifier_form enum kinds.enumeration w x e = by (enum w) e where
   by : (o : Option ℤ) → option_map model.enumerated o ≡ Some x → HasForm kinds.enumeration x
   by None h = absurd (cc h)
-  by (Some z) h = subst (HasForm kinds.enumeration) (same_of (model.enumerated z) x h) tt
+  by (Some z) h = subst (HasForm kinds.enumeration) (same_Some (model.enumerated z) x h) tt
 identifier_form enum k w x e = absurd (cc e)
 
 string_form : (k : Scalar) (s : Text) (x : Single) → string_in k s ≡ Some x → HasForm k x
 string_form kinds.string s x e = only kinds.string _ _ x tt e
-string_form kinds.bytes s x e = subst (HasForm kinds.bytes) (same_of (model.blob s) x e) tt
+string_form kinds.bytes s x e = subst (HasForm kinds.bytes) (same_Some (model.blob s) x e) tt
 string_form k s x e = absurd (cc e)
 
 -- what a text gives to a kind
-pub form_read : (enum : Text → Option ℤ) (k : Scalar) (s : ScalarValue) (x : Single) → scalar_in enum k s ≡ Some x → HasForm k x
+form_read : (enum : Text → Option ℤ) (k : Scalar) (s : ScalarValue) (x : Single) → scalar_in enum k s ≡ Some x → HasForm k x
 form_read enum k (signed minus (integer r digits)) x e = integer_form k minus _ x e
 form_read enum k (signed false (identifier w)) x e = identifier_form enum k w x e
 form_read enum k (signed true (identifier w)) x e = absurd (cc e)
@@ -155,12 +153,12 @@ no_enumerated t z h g = g
 
 -- a value of a key's kind is a key
 pub key_is : (t : KindType) → IsKeyKind t → (v : Value) (x : Single) → single_of v ≡ Some x → HasForm (scalar_of t) x → (k : MapKey) × (key_of_value v ≡ Some k) × (key_single k ≡ x)
-key_is t h (held.Bool b) x e form = (keys.Bool b, search (rules, the_lemmas), same_of (model.truth b) x e)
-key_is t h (held.I32 z) x e form = (keys.I32 z, search (rules, the_lemmas), same_of (model.int32 z) x e)
-key_is t h (held.I64 z) x e form = (keys.I64 z, search (rules, the_lemmas), same_of (model.int64 z) x e)
-key_is t h (held.U32 n) x e form = (keys.U32 n, search (rules, the_lemmas), same_of (model.uint32 n) x e)
-key_is t h (held.U64 n) x e form = (keys.U64 n, search (rules, the_lemmas), same_of (model.uint64 n) x e)
-key_is t h (held.String s) x e form = (keys.String s, search (rules, the_lemmas), same_of (model.text (string_bytes s)) x e)
-key_is t h (held.Bytes b) x e form = absurd (no_blob t b.items h (subst (HasForm (scalar_of t)) (sym (same_of (model.blob b.items) x e)) form))
-key_is t h (held.EnumNumber z) x e form = absurd (no_enumerated t z h (subst (HasForm (scalar_of t)) (sym (same_of (model.enumerated z) x e)) form))
+key_is t h (held.Bool b) x e form = (keys.Bool b, search (rules, the_lemmas), same_Some (model.truth b) x e)
+key_is t h (held.I32 z) x e form = (keys.I32 z, search (rules, the_lemmas), same_Some (model.int32 z) x e)
+key_is t h (held.I64 z) x e form = (keys.I64 z, search (rules, the_lemmas), same_Some (model.int64 z) x e)
+key_is t h (held.U32 n) x e form = (keys.U32 n, search (rules, the_lemmas), same_Some (model.uint32 n) x e)
+key_is t h (held.U64 n) x e form = (keys.U64 n, search (rules, the_lemmas), same_Some (model.uint64 n) x e)
+key_is t h (held.String s) x e form = (keys.String s, search (rules, the_lemmas), same_Some (model.text (string_bytes s)) x e)
+key_is t h (held.Bytes b) x e form = absurd (no_blob t b.items h (subst (HasForm (scalar_of t)) (sym (same_Some (model.blob b.items) x e)) form))
+key_is t h (held.EnumNumber z) x e form = absurd (no_enumerated t z h (subst (HasForm (scalar_of t)) (sym (same_Some (model.enumerated z) x e)) form))
 key_is t h v x e form = absurd (cc e)

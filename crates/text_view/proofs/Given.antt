@@ -108,7 +108,7 @@ module _ (pool : PoolType) (names : HaveNames pool) (decoded : Name → Text →
   kind_braced (publics.Enum e) t is fs = ap (λ t. message_content (wanted_in w (number_in pool t) (kind_in pool group t)) (λ s. value w s fs nothing)) is.1
   kind_braced k t is fs = ap (λ t. message_content (wanted_in w (number_in pool t) (kind_in pool group t)) (λ s. value w s fs nothing)) is
 
-  pub kind_wants : (k : Kind) (t : KindType) → IsKind pool k t → is_float t ≡ false → Wants pool w k (wanted_in w (number_in pool t) (kind_in pool group t))
+  kind_wants : (k : Kind) (t : KindType) → IsKind pool k t → is_float t ≡ false → Wants pool w k (wanted_in w (number_in pool t) (kind_in pool group t))
   kind_wants k t is whole = record {
     told = λ s. told w pool group s k t is whole;
     braced = kind_braced k t is;

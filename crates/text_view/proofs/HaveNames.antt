@@ -63,7 +63,7 @@ module _ (pool : PoolType) (sound : IsSound pool) (spelled : HasSourceNames pool
         (at.0, at.1.0, at.1.1.0 no_value, ap (λ (v : ValueType). v.name) there ∙ ap (λ o. unwrap_or o v.name) (sym (ap (option_map (λ (v : ValueType). v.name)) is) ∙ e))
 
   -- the name of a value finds its number
-  pub value_found : (k : KindType) (z : ℤ) (w : Text) → name_in pool k z ≡ Some w → number_in pool k w ≡ Some z
+  value_found : (k : KindType) (z : ℤ) (w : Text) → name_in pool k z ≡ Some w → number_in pool k w ≡ Some z
   value_found (types.enumeration k) z w e =
       let at = value_place k z w e in
       ap (option_map (λ (v : ValueType). v.number))
@@ -152,10 +152,10 @@ module _ (pool : PoolType) (sound : IsSound pool) (spelled : HasSourceNames pool
       by None is (Some g) also = ap (listed pool n) is ∙ sym (ap (λ o. cond (is_declared (either_field pool i o (known_extension pool i n))) (n ∷ []) []) is ∙ ap (λ o. cond (is_declared (either_field pool i None o)) (n ∷ []) []) also)
       by None is None also = ap (listed pool n) is ∙ sym (ap (λ o. cond (is_declared (either_field pool i o (known_extension pool i n))) (n ∷ []) []) is ∙ ap (λ o. cond (is_declared (either_field pool i None o)) (n ∷ []) []) also)
 
-    pub names_there : AreNames (field_at pool i) (names_of pool i)
+    names_there : AreNames (field_at pool i) (names_of pool i)
     names_there = record { fields = λ n f e. (named_well n f e).0; enums = enum_found; declared = declared_once }
 
-    pub identifiers_there : AreIdentifiers (field_at pool i) (names_of pool i)
+    identifiers_there : AreIdentifiers (field_at pool i) (names_of pool i)
     identifiers_there = record { fields = λ n f e. (named_well n f e).1; enums = enum_spelled }
 
   -- the entries of maps

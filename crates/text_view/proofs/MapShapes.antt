@@ -103,7 +103,7 @@ module _ (inner : DynamicMessage → Type 0) (blank_inner : (m : DynamicMessage)
     by None fits = all
     by (Some p) fits = inserted Fit before p.0 p.1 all (fits p.0 p.1 refl)
 
-  pub all_fit : (before after : List (MapKey × Value)) (vs : List Value) → AllByRecursion (λ (e : MapKey × Value). Fit e.1) before → AllByRecursion IsMadeEntry vs → PutsAll before after vs
+  all_fit : (before after : List (MapKey × Value)) (vs : List Value) → AllByRecursion (λ (e : MapKey × Value). Fit e.1) before → AllByRecursion IsMadeEntry vs → PutsAll before after vs
       → AllByRecursion (λ (e : MapKey × Value). Fit e.1) after
   all_fit before after [] all made h = subst (AllByRecursion (λ (e : MapKey × Value). Fit e.1)) (sym h) all
   all_fit before after (v ∷ vs) all made (between, (given, gives_it, put_so), rest) =

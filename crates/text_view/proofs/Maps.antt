@@ -91,7 +91,7 @@ module _ (d : MessageDescriptor) (sound : IsSound d.pool.now) (e : StoredEntry) 
       )
 
   -- entries are put one behind the other
-  pub all_put : (before after : List (MapKey × Value)) (vs : List Value) → HaveKeys of_key before → AllByRecursion (IsMessageOf d) vs → PutsAll before after vs
+  all_put : (before after : List (MapKey × Value)) (vs : List Value) → HaveKeys of_key before → AllByRecursion (IsMessageOf d) vs → PutsAll before after vs
       → (put_all (pairs_view before) (map (entry_of the_key the_part) (map content_view vs)) ≡ pairs_view after) × HaveKeys of_key after
   all_put before after [] formed entries h = (sym (ap pairs_view h), subst (HaveKeys of_key) (sym h) formed)
   all_put before after (v ∷ vs) formed entries (between, (given, gives, put_so), rest) =

@@ -90,7 +90,7 @@ extension_place pool i n g e = by (find test pool.extensions) refl where
 -- ---- by their names
 
 -- where names are distinct a field is found by its name
-pub first_named : (pool : PoolType) → HaveOwnNames pool → (i k : ℕ) → k < length (type_at pool i).fields → (v : Text) → (type_of_field pool i k).name ≡ v
+first_named : (pool : PoolType) → HaveOwnNames pool → (i k : ℕ) → k < length (type_at pool i).fields → (v : Text) → (type_of_field pool i k).name ≡ v
     → first_called pool i v ≡ Some (type_of_field pool i k)
 first_named pool distinct i k lt v e =
     only_one (λ (g : FieldType). g.name ≡ v) (λ g. bytes_eq g.name v) (called v) (type_at pool i).fields no_field k lt e

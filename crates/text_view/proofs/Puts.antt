@@ -65,7 +65,7 @@ pub message_is : (m : DynamicMessage) → message_in (held.Message m) ≡ Some m
 message_is m = search (rules, the_lemmas)
 
 -- a single value or a message, as a field holds it
-pub held_settled : (pool : PoolType) (f : FieldType) (v : Value) → IsOne v → held_in pool f (Some (content_view v)) ≡ settled (part_of pool f) (content_view v)
+held_settled : (pool : PoolType) (f : FieldType) (v : Value) → IsOne v → held_in pool f (Some (content_view v)) ≡ settled (part_of pool f) (content_view v)
 held_settled pool f v (inl (x, one)) =
     ap (λ c. held_in pool f (Some c)) (content_is v x one) ∙ sym (ap (settled (part_of pool f)) (content_is v x one))
 held_settled pool f v (inr (m, is)) =

@@ -118,7 +118,7 @@ module _ (decoded : Name → Text → Option Message) (m : DynamicMessage) (kind
         ap (λ o. cond s.is_any (of_type o) None) (type_found pool (written name) c finds)
         ∙ ap (λ o. cond s.is_any (option_and_then (taken (name_at pool c.index)) o) None) (unfit.body c at bad) ∙ either_none s.is_any
 
-  pub name_refused : (name : FieldName) → RejectsNamed name (IsUnfitGiven g) (AreUnfitGiven g) (IsUnfitBody g) m
+  name_refused : (name : FieldName) → RejectsNamed name (IsUnfitGiven g) (AreUnfitGiven g) (IsUnfitBody g) m
       → named_value w s name (view m) (field_value w s g (view m)) (λ t. body_value w t g) ≡ None
   name_refused (plain v) (inl none) = ap (λ o. with_field s o (field_value w s g (view m))) (none_found d v none)
   name_refused (plain v) (inr (t, named, rejects)) =

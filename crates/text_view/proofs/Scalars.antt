@@ -34,13 +34,6 @@ use Rattle.text_view.specs.Names.{number_in}
 -- the single value of a value, by one word and by another
 pub one_value : (v : Value) → single_of v ≡ option_map single_view (singles.single v)
 one_value (held.Bool b) = search (rules, the_lemmas)
-one_value (held.I32 z) = search (rules, the_lemmas)
-one_value (held.I64 z) = search (rules, the_lemmas)
-one_value (held.U32 n) = search (rules, the_lemmas)
-one_value (held.U64 n) = search (rules, the_lemmas)
-one_value (held.String t) = search (rules, the_lemmas)
-one_value (held.Bytes b) = search (rules, the_lemmas)
-one_value (held.EnumNumber z) = search (rules, the_lemmas)
 one_value v = search (rules, the_lemmas)
 
 -- and it is the content that is seen
@@ -87,21 +80,9 @@ module _ (w : Schema) (pool : PoolType) (group : Bool) (s : ScalarValue) where
   given_whole : (k : publics.Kind) (t : KindType) (x : Single) → IsKind pool k t → scalar_given k s ≡ Some x → is_float t ≡ false
   given_whole values.Double t x is e = absurd (cc e)
   given_whole values.Float t x is e = absurd (cc e)
-  given_whole values.Int32 t x is e = ap is_float is
-  given_whole values.Int64 t x is e = ap is_float is
-  given_whole values.Uint32 t x is e = ap is_float is
-  given_whole values.Uint64 t x is e = ap is_float is
-  given_whole values.Sint32 t x is e = ap is_float is
-  given_whole values.Sint64 t x is e = ap is_float is
-  given_whole values.Fixed32 t x is e = ap is_float is
-  given_whole values.Fixed64 t x is e = ap is_float is
-  given_whole values.Sfixed32 t x is e = ap is_float is
-  given_whole values.Sfixed64 t x is e = ap is_float is
-  given_whole values.Bool t x is e = ap is_float is
-  given_whole values.String t x is e = ap is_float is
-  given_whole values.Bytes t x is e = ap is_float is
   given_whole (values.Message d) t x is e = ap is_float is.1
   given_whole (values.Enum d) t x is e = ap is_float is.1
+  given_whole k t x is e = ap is_float is
 
   pub scalar_is_given : (k : publics.Kind) (t : KindType) (v : Value) → IsKind pool k t → IsScalar k s v → read_as t ≡ Some (content_view v)
   scalar_is_given k t v is (x, given, one) =

@@ -211,7 +211,7 @@ module _ (decoded : Name → Text → Option Message) (old next : DynamicMessage
     step.2,
   )
 
-  pub name_step : (name : FieldName) → Names name (IsGiven g) (AreGiven g) (FillsBody g) old next
+  name_step : (name : FieldName) → Names name (IsGiven g) (AreGiven g) (FillsBody g) old next
       → Stepped (named_value w s name (view old) (field_value w s g (view old)) (λ t. body_value w t g))
   name_step (plain v) (t, named, assigns) =
       let owns = named_target d sound.apart v t (inl named) in

@@ -69,9 +69,6 @@ module _ (d : MessageDescriptor) (apart : AreApart d.pool.now) where
       ap (λ o. value_kind d.pool.now o (known_extension d.pool.now d.index (extension_type x).number)) (no_field_there d apart x owns)
       ∙ ap (value_kind d.pool.now None) (extension_owned d x owns)
 
-  pub enum_under : (t : Target) → OwnsTarget d t → (names_of d.pool.now d.index).enum_number (target_type t).number ≡ number_in d.pool.now (values_of d.pool.now (target_type t)).kind
-  enum_under t owns = ap (λ o. λ v. option_and_then (λ k. number_in d.pool.now k v) o) (kind_under t owns)
-
   -- of which type the entries of a target are, by its number
   pub entry_under : (t : Target) → OwnsTarget d t → (names_of d.pool.now d.index).entry (target_type t).number ≡ kind_name d.pool.now (target_type t).kind
   entry_under (targets.Field f) owns = ap (λ o. entry_name d.pool.now o (known_extension d.pool.now d.index (field_type f).number)) (owned d f owns)
