@@ -110,7 +110,7 @@ module _ (stored : DynamicMessage) (sound : IsSound stored.descriptor.pool.now) 
       let said = stands_truth (field_pool f) held.4.0 held.4.2 held.1 (subst (IsKind (field_pool f) held.4.0) kind held.4.3) held.4.5 in
       let same : last read.0 ≡ Some said.0 = last_truth held.4.1 held.4.2 said.0 said.1 read.0 (subst (λ ps. AllZip IsBool (map value_of ps) read.0) (is ∙ held.4.4) truths) in
       let truth : truth_in new ≡ Some said.0 = ap truth_in held.2 ∙ ap (option_and_then cases.truth_of) held.3 ∙ said.2 in
-      truth ∙ sym {b = Some said.0} same ∙ sym read.2
+      truth ∙ sym same ∙ sym read.2
 
   -- it has no siblings
   alone : (k : ℕ) → IsSibling stored.descriptor f k → ⊥
