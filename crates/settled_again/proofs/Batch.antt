@@ -14,14 +14,15 @@ use Rattle.reflect_build.specs.Refusals.{IsOf, Linking, new_files}
 use Rattle.reflect_options.specs.Settling.{SettlesPool}
 use Rattle.reflect_tables.specs.Types.{PoolType}
 use Rattle.settled_view.specs.BuiltBut.{ChangesOptions}
+use Rattle.stored_options.specs.CopiedOptions.{AreCopied}
+use Rattle.stored_options.proofs.Copied.{read_copied}
 use Rattle.text_view.specs.SourceNames.{HaveOwnNames}
 use Rattle.types_view.specs.Pools.{IsIndexed, IsKept, IsRecorded}
 use Rattle.types_view.specs.Typed.{IsTyped}
-use Rattle.types_view.proofs.Settled.{typed_more}
 use Rattle.settled_again.proofs.Grown.{held_stay}
-use Rattle.settled_again.proofs.Held.{held_after, new_given}
-use Rattle.settled_again.proofs.Linked.{linked_names, linked_sound}
-use Rattle.settled_again.proofs.Read.{read_behind, settled_reads_alike}
+use Rattle.settled_again.proofs.Held.{held_after}
+use Rattle.settled_again.proofs.Linked.{linked_sound}
+use Rattle.settled_again.proofs.More.{reads_more}
 use Rattle.settled_again.specs.HeldOptions.{AreHeld, HoldsOptions, ReadsAlike}
 
 -- what is so of a pool of one batch more
@@ -37,16 +38,14 @@ pub holds_more : (earlier : List (List FileContent)) (old linked new : PoolType)
     → ArePlainFiles AreGiven (map file_view typed) → HoldsOptions old → ReadsAlike was.but.linked old → ArePlainFiles SaysAndIsSettled (map file_view new.records)
     → HoldsMore earlier old new typed
 holds_more earlier old linked new typed was stored kept recorded indexed also sound names faultless settles changes given held alike done =
-    let m = typed_more earlier old linked new typed was recorded indexed also faultless changes in
+    let copied = files_weaker AreGiven AreCopied (λ scope o is. read_copied scope o is.0) (map file_view typed) given in
+    let m = reads_more earlier old linked new typed was stored recorded indexed also sound names faultless settles changes copied alike in
     let many : length old.files ≡ length old.records = ap length stored.headers ∙ length-map old.records _ in
-    let before = linked_sound linked new changes.settled sound in
-    let own = linked_names linked new changes.settled names in
-    let as_given = new_given old linked new typed faultless settles changes.settled before many given in
     record {
       linking = m.linking;
       of = m.of;
-      built = m.typed;
-      held = held_after old linked new typed faultless settles changes.settled before many given
-          (files_weaker (AreHeld old) (AreHeld new) (held_stay earlier _ old new was m.typed kept also) (map file_view old.records) held) done;
-      alike = settled_reads_alike linked new (length old.files) settles before own as_given ∙ read_behind old was.but.linked linked m.typed.but.linked m.more alike m.beside m.behind;
+      built = m.built;
+      held = held_after old linked new typed faultless settles changes.settled (linked_sound linked new changes.settled sound) many given
+          (files_weaker (AreHeld old) (AreHeld new) (held_stay earlier _ old new was m.built kept also) (map file_view old.records) held) done;
+      alike = m.alike;
     }

@@ -1,6 +1,5 @@
 -- The options of files of sources are held where the files are linked and their options are settled.
-use Rattle.std.proofs.Common.{◌≡◌, ◌⊎◌, ◌≤◌, ℕ, List, map, length, Some, slice_get, inl, inr, ap, sym, subst, arith}
-use Rattle.std.proofs.lemmas.List.{length-map}
+use Rattle.std.proofs.Common.{◌≡◌, ◌⊎◌, ◌≤◌, ℕ, List, map, length, Some, slice_get, inl, inr, ap, sym, subst}
 use Rattle.reflect_wire.specs.Written.{AreBytes}
 use Rattle.option_parts.specs.OptionTypes.{CanRead}
 use Rattle.descriptor_records.specs.Content.{OptionsContent, file_view}
@@ -24,7 +23,7 @@ use Rattle.settled_records.proofs.PlainOptions.{said}
 use Rattle.settled_records.proofs.Settled.{SettlesToSaid, pool_says}
 use Rattle.stored_options.specs.StoredOptions.{AreStored}
 use Rattle.stored_options.proofs.Sources.{sources_stored}
-use Rattle.settled_again.proofs.Said.{behind_get, entities_say, type_of_scope}
+use Rattle.settled_again.proofs.Said.{batch_says, entities_say, type_of_scope}
 use Rattle.settled_again.specs.HeldOptions.{AreHeld, HasType, HoldsOptions}
 
 -- a pool whose options were settled has the types that it had
@@ -39,10 +38,7 @@ module _ (old linked new : PoolType) (typed : List FileDescriptorProto) (faultle
 
   -- those of the files that were linked are as they were given
   pub new_given : (k : ℕ) (f : FileDescriptorProto) → slice_get linked.records k ≡ Some f → length old.files ≤ k → IsPlainFile AreGiven 99 (file_view f)
-  new_given k f there far =
-      let r = fresh_plain AreGiven old linked typed given faultless in
-      let long = length-map old.records file_view in
-      behind_get (IsPlainFile AreGiven 99) linked.records (map file_view old.records) r.0 r.1 r.2 k f there (omega (arith, many, long, far))
+  new_given = batch_says AreGiven old linked typed faultless many given
 
   one_held : (c : Entity) → Meets (λ file. said AreGiven) c → SettlesToSaid Either linked c
   one_held c meets s o out paths there is settle = inl (λ bytes. inl (settled_type linked new c.scope settled has, stored bytes))

@@ -3,6 +3,7 @@ pub mod Batch
 pub mod Grown
 pub mod Held
 pub mod Linked
+pub mod More
 pub mod Read
 pub mod ReadPut
 pub mod Said

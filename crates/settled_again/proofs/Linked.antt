@@ -15,3 +15,10 @@ linked_names linked new settled names = by (subst HaveOwnNames settled names)
   where
     by : HaveOwnNames (record linked { records = new.records }) → HaveOwnNames linked
     by r = record { fields = r.fields; values = r.values; extensions = r.extensions }
+
+-- and so has the pool whose options were settled
+pub names_stay : (linked new : PoolType) → IsSettled linked new → HaveOwnNames linked → HaveOwnNames new
+names_stay linked new settled names = subst HaveOwnNames (sym settled) (by names)
+  where
+    by : HaveOwnNames linked → HaveOwnNames (record linked { records = new.records })
+    by r = record { fields = r.fields; values = r.values; extensions = r.extensions }

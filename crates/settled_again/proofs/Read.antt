@@ -11,7 +11,6 @@ use Rattle.message_view.specs.Sound.{IsSound}
 use Rattle.option_parts.specs.OptionTypes.{CanRead}
 use Rattle.option_setter.specs.declared.option_setter.NameScope.{NameScope}
 use Rattle.plain_records.specs.PlainRecords.{IsPlainFile}
-use Rattle.plain_records.specs.SourceOptions.{AreGiven}
 use Rattle.reflect_growth.specs.Put.{file_put, with_at}
 use Rattle.reflect_growth.specs.declared.settle.Edit.{Edit}
 use Rattle.reflect_growth.specs.declared.settle.Edit.TheVariants as edits
@@ -27,7 +26,8 @@ use Rattle.settled_records.proofs.OfEntities.{Meets}
 use Rattle.settled_records.proofs.PlainOptions.{file_of, said}
 use Rattle.settled_records.proofs.Standing.{Stands, file_stands}
 use Rattle.settled_records.proofs.Themselves.{stays_at}
-use Rattle.stored_options.proofs.Linking.{said_as_before}
+use Rattle.stored_options.proofs.Linking.{copied_as_before}
+use Rattle.stored_options.specs.CopiedOptions.{AreCopied}
 use Rattle.text_view.specs.SourceNames.{HaveOwnNames}
 use Rattle.settled_again.proofs.ReadPut.{edited_read, file_read, read_stays}
 use Rattle.settled_again.specs.HeldOptions.{ReadsAlike}
@@ -37,7 +37,7 @@ twice [] = refl
 twice (f ∷ fs) = ap (λ ys. read_file (file_view f) ∷ ys) (twice fs)
 
 module _ (linked new : PoolType) (first : ℕ) (settles : SettlesPool linked first new) (sound : IsSound linked) (names : HaveOwnNames linked)
-    (given : (k : ℕ) (f : FileDescriptorProto) → slice_get linked.records k ≡ Some f → first ≤ k → IsPlainFile AreGiven 99 (file_view f)) where
+    (given : (k : ℕ) (f : FileDescriptorProto) → slice_get linked.records k ≡ Some f → first ≤ k → IsPlainFile AreCopied 99 (file_view f)) where
   abbrev reads : List FileContent
   reads = map read_file (map file_view linked.records)
 
@@ -56,16 +56,16 @@ module _ (linked new : PoolType) (first : ℕ) (settles : SettlesPool linked fir
       ap (with_at file change) (twice linked.records) ∙ stays_at (λ f. read_file (file_view f)) change file linked.records f there here ∙ sym (twice linked.records)
 
   -- what is read of what they settle to
-  says_same : (c : Entity) → Meets (λ file. said AreGiven) c → (s : NameScope) (o settled : Options) (paths : List (List ℤ)) → c.options ≡ Some o → s.pool.now ≡ linked
+  says_same : (c : Entity) → Meets (λ file. said AreCopied) c → (s : NameScope) (o settled : Options) (paths : List (List ℤ)) → c.options ≡ Some o → s.pool.now ≡ linked
       → Settles c.scope s o (options_view settled) paths → read_options (options_view settled) ≡ read_options (options_view o)
   says_same c meets s o settled paths is pool settle =
-      let r = said_as_before c.scope s o settled paths (subst IsSound (sym pool) sound) (subst HaveOwnNames (sym pool) names) (subst (λ p. CanRead p c.scope) (sym pool) (settles.readable c.scope)) (meets o is).0 settle in
+      let r = copied_as_before c.scope s o settled paths (subst IsSound (sym pool) sound) (subst HaveOwnNames (sym pool) names) (subst (λ p. CanRead p c.scope) (sym pool) (settles.readable c.scope)) (meets o is) settle in
       λ i. record { encoded = []; packed = r.0 i; allow_alias = r.1 i; map_entry = r.2 i; uninterpreted_option = [] }
 
   moved : (file place : ℕ) (path : Vec ℤ Global) → Leaves (edits.Location file place path)
   moved file place path = refl
 
-  one_edit : (c : Entity) → Meets Stay c × Meets (λ file. said AreGiven) c → EditsEntity linked Leaves moved c
+  one_edit : (c : Entity) → Meets Stay c × Meets (λ file. said AreCopied) c → EditsEntity linked Leaves moved c
   one_edit c meets s o settled paths at is pool settle placed =
       ap (λ p. with_at c.file (file_put p (read_options (options_view settled))) reads) placed
       ∙ ap (λ v. with_at c.file (file_put c.path v) reads) (says_same c meets.1 s o settled paths is pool settle)
@@ -75,8 +75,8 @@ module _ (linked new : PoolType) (first : ℕ) (settles : SettlesPool linked fir
   file_edits k f there far =
       let stand = file_keeps (Stands (file_view f)) (Stay k) (λ scope path o same. same_read k f there path o same) (file_view f) (file_stands (file_view f)) in
       let stay = entities_of Stay k f stand in
-      let says = entities_of (λ file. said AreGiven) k f (file_of AreGiven 99 (file_view f) (given k f there far)) in
-      all_through (λ c. Meets Stay c × Meets (λ file. said AreGiven) c) (EditsEntity linked Leaves moved) (file_entities k f) one_edit (all_pairs (Meets Stay) (Meets (λ file. said AreGiven)) (file_entities k f) stay says)
+      let says = entities_of (λ file. said AreCopied) k f (file_of AreCopied 99 (file_view f) (given k f there far)) in
+      all_through (λ c. Meets Stay c × Meets (λ file. said AreCopied) c) (EditsEntity linked Leaves moved) (file_entities k f) one_edit (all_pairs (Meets Stay) (Meets (λ file. said AreCopied)) (file_entities k f) stay says)
     where
       all_pairs : {A : Type 0} (P Q : A → Type 0) (xs : List A) → AllByRecursion P xs → AllByRecursion Q xs → AllByRecursion (λ x. P x × Q x) xs
       all_pairs P Q [] p q = tt

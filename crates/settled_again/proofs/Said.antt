@@ -1,13 +1,16 @@
--- What is said of all options of a file is said of those of its entities, and which type they are read
--- by.
+-- What is said of all options of a file, or of all files of a batch, is said of those of entities and of
+-- records; and which type they are read by.
 use Rattle.std.proofs.Common.{◌≡◌, ◌≤◌, ◌++◌, ℕ, zero, suc, List, [], ◌∷◌, map, length, Some, slice_get, refl, sym, subst, arith}
+use Rattle.std.proofs.lemmas.List.{length-map}
 use Rattle.std.specs.List.{AllByRecursion}
 use Rattle.descriptor_records.specs.Content.{FileContent, OptionsContent, file_view}
 use Rattle.descriptor_records.specs.declared.file.FileDescriptorProto.{FileDescriptorProto}
 use Rattle.option_parts.specs.OptionTypes.{type_name}
 use Rattle.option_parts.specs.declared.option_scope.OptionScope.{OptionScope}
 use Rattle.option_setter.specs.declared.option_setter.NameScope.{NameScope}
-use Rattle.plain_records.specs.PlainRecords.{IsPlainFile}
+use Rattle.linked_records.proofs.Accepted.{fresh_plain}
+use Rattle.plain_records.specs.PlainRecords.{ArePlainFiles, IsPlainFile}
+use Rattle.reflect_build.specs.Accepted.{FaultlessFiles}
 use Rattle.reflect_options.specs.Entities.{file_entities}
 use Rattle.reflect_options.specs.Settled.{IsType}
 use Rattle.reflect_pool.specs.Dots.{without_dot}
@@ -21,7 +24,7 @@ use Rattle.settled_records.proofs.PlainOptions.{file_of, said}
 use Rattle.settled_again.specs.HeldOptions.{HasType}
 
 -- what holds of a list behind so many others holds of what stands there
-pub behind_get : (P : FileContent → Type 0) (fs : List FileDescriptorProto) (front back : List FileContent) → map file_view fs ≡ front ++ back → AllByRecursion P back → (k : ℕ) (f : FileDescriptorProto)
+behind_get : (P : FileContent → Type 0) (fs : List FileDescriptorProto) (front back : List FileContent) → map file_view fs ≡ front ++ back → AllByRecursion P back → (k : ℕ) (f : FileDescriptorProto)
     → slice_get fs k ≡ Some f → length front ≤ k → P (file_view f)
 behind_get P [] front back is all k f there far = absurd (cc there)
 behind_get P (x ∷ xs) [] back is all zero f there far =
@@ -46,3 +49,11 @@ pub type_of_scope : (p : PoolType) (scope : OptionScope) (s : NameScope) → s.p
 type_of_scope p scope s is d type =
     let found = subst (λ (q : PoolType). IsFirst (λ m. m.full_name ≡ without_dot (type_name scope)) q.messages (Some d.index)) is type.1 in
     (d.index, subst (λ n. IsFirst (λ m. m.full_name ≡ n) p.messages (Some d.index)) (no_dot scope) found)
+
+-- what is said of options of files that are linked is so of those of the records behind the old ones
+pub batch_says : (Says : OptionScope → OptionsContent → Type 0) (old linked : PoolType) (files : List FileDescriptorProto) → FaultlessFiles old files linked → length old.files ≡ length old.records
+    → ArePlainFiles Says (map file_view files) → (k : ℕ) (f : FileDescriptorProto) → slice_get linked.records k ≡ Some f → length old.files ≤ k → IsPlainFile Says 99 (file_view f)
+batch_says Says old linked files faultless many plain k f there far =
+    let r = fresh_plain Says old linked files plain faultless in
+    let long = length-map old.records file_view in
+    behind_get (IsPlainFile Says 99) linked.records (map file_view old.records) r.0 r.1 r.2 k f there (omega (arith, many, long, far))

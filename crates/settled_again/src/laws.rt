@@ -1,7 +1,7 @@
-//! Laws of the records of pools that sources made, each the contract of a function that does
-//! nothing. What is asked of pools beside this each pool has, as `pools_are_recorded`,
-//! `pools_are_indexed` and `pools_are_linked` say.
-ghost use Rattle.std.specs.Prelude.{◌≡◌, ◌∷◌, ℕ, List, [], Option, Some, length, map};
+//! Laws of the records of pools that files were linked into and settled, each the contract of a
+//! function that does nothing. What is asked of pools beside this each pool has, as
+//! `pools_are_recorded`, `pools_are_indexed` and `pools_are_linked` say.
+ghost use Rattle.std.specs.Prelude.{◌≡◌, ◌∷◌, ℕ, List, Option, Some, length, map};
 ghost use Rattle.descriptor_records.specs.Content.{FileContent, file_view};
 ghost use Rattle.descriptor_records.specs.declared.file.FileDescriptorProto.{FileDescriptorProto};
 ghost use Rattle.message_view.specs.Sound.{IsSound};
@@ -26,10 +26,26 @@ ghost use Rattle.reflect_wire.specs.Written.{AreBytes};
 ghost use Rattle.reflect_wire.specs.declared.wire_error.WireError.TheVariants.{Memory};
 ghost use Rattle.settled_again.specs.HeldOptions.{HoldsOptions, ReadsAlike};
 ghost use Rattle.settled_view.specs.BuiltBut.{ChangesOptions};
+ghost use Rattle.stored_options.specs.CopiedOptions.{ReadsItsBytes};
 ghost use Rattle.text_view.specs.SourceNames.{HaveOwnNames};
 ghost use Rattle.text_view.specs.Schemas.{schema_of};
 ghost use Rattle.types_view.specs.Pools.{IsIndexed, IsKept, IsRecorded};
 ghost use Rattle.types_view.specs.Typed.{IsTyped};
+
+/// Where files are linked and settled, whether sources give them or a set does, linking reads of all
+/// records what it read of those that it made.
+pub fn settled_files_are_read_alike()
+    ensures { (earlier : List (List FileContent)) (old linked new : PoolType)
+        (files typed : List FileDescriptorProto) (was : IsTyped earlier old)
+        → IsRecorded old → IsRecorded new → IsIndexed new → IsKept new
+        → IsSound new → HaveOwnNames new
+        → ArePlainFiles ReadsItsBytes (map file_view files) → TypedFiles files typed
+        → FaultlessFiles old typed linked → SettlesPool linked (length old.files) new
+        → ChangesOptions linked new → ReadsAlike was.but.linked old
+        → (w : Linking) × IsOf old w
+        × (is : IsTyped (map file_view (new_files w.indexes typed) ∷ earlier) new)
+        × ReadsAlike is.but.linked new }
+{}
 
 /// Where files of sources are linked and settled, options are held as they were or as the sources
 /// gave them, and linking reads of all records what it read of those that it made.

@@ -8,13 +8,13 @@ use Rattle.option_parts.specs.declared.option_scope.OptionScope.{OptionScope}
 use Rattle.plain_records.specs.Kinds.{kind_of}
 use Rattle.reflect_codec.proofs.Parts.{one_each, one_fields}
 
-one_truth : (v : Value) (a b : Bool) → IsBool v a → IsBool v b → a ≡ b
+pub one_truth : (v : Value) (a b : Bool) → IsBool v a → IsBool v b → a ≡ b
 one_truth (number n) a b h k = h.2 ∙ ap (λ n. not (n == 0)) (h.1 ∙ sym k.1) ∙ sym k.2
 one_truth (eight_bytes n) a b h k = absurd h.1
 one_truth (payload p) a b h k = absurd h.1
 one_truth other a b h k = absurd h.1
 
-pub one_last : (vs : List Value) (o p : Option Bool) → IsLast IsBool vs o → IsLast IsBool vs p → o ≡ p
+one_last : (vs : List Value) (o p : Option Bool) → IsLast IsBool vs o → IsLast IsBool vs p → o ≡ p
 one_last vs o p h k = h.2 ∙ ap last (one_each IsBool one_truth vs h.0 k.0 h.1 k.1) ∙ sym k.2
 
 one_if : (b : Bool) (vs : List Value) (o p : Option Bool) → IsLastIf b IsBool vs o → IsLastIf b IsBool vs p → o ≡ p

@@ -7,6 +7,7 @@ pub mod StoredTruths
 pub mod Refusals
 pub mod Owning
 pub mod OwnTruth
+pub mod Copied
 pub mod Linking
 pub mod Levels
 pub mod SaidSuits

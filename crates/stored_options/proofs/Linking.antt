@@ -1,35 +1,33 @@
--- Of options of sources linking reads afterwards what it read before they were settled.
-use Rattle.std.proofs.Common.{◌≡◌, ◌≢◌, inl, inr, ℕ, ℤ, zero, suc, ◌&&◌, ◌||◌, not, Bool, true, false, cond, List, [], ◌∷◌, map, Option, None, Some, refl, sym, ap, ◌∙◌, subst, arith}
+-- Of options linking reads afterwards what it read before they were settled.
+use Rattle.std.proofs.Common.{◌≡◌, ◌≢◌, ℕ, ℤ, zero, suc, ◌&&◌, ◌||◌, not, Bool, true, false, cond, List, [], ◌∷◌, map, Option, None, refl, sym, ap, ◌∙◌, subst, arith}
 use Rattle.std.proofs.lemmas.Bool.{and_parts}
 use Rattle.std.specs.List.{All}
-use Rattle.std.specs.Option.{unwrap_or}
 use Rattle.std.specs.Prelude.{codes}
 use Rattle.std.specs.Str.{bytes_eq}
 use Rattle.descriptor_records.specs.Content.{NameContent, OptionsContent, option_view, options_view}
 use Rattle.descriptor_records.specs.declared.options.Options.{Options}
 use Rattle.descriptor_records.specs.declared.options.UninterpretedOption.{UninterpretedOption}
 use Rattle.message_view.specs.Sound.{IsSound}
-use Rattle.message_view.proofs.Fields.{known}
 use Rattle.message_view.proofs.Written.{or_true}
 use Rattle.option_parts.specs.OptionTypes.{CanRead, HasField, IsOptionType, IsTruthValue}
-use Rattle.option_parts.specs.TypedOptions.{is_named, is_plain, truth_of, written_truth}
+use Rattle.option_parts.specs.TypedOptions.{is_named, is_plain, truth_of, written_or, written_truth}
 use Rattle.option_parts.specs.declared.option_scope.OptionScope.{OptionScope}
 use Rattle.option_parts.specs.declared.option_scope.OptionScope.TheVariants as scopes
 use Rattle.option_setter.specs.declared.option_setter.NameScope.{NameScope}
 use Rattle.plain_records.specs.SourceOptions.{AreAsRead}
+use Rattle.reflect_codec.specs.Reading.{Field, IsBool, IsLast, SpellsFields, values_at}
 use Rattle.reflect_decode.specs.Spelled.{IsSpelled}
-use Rattle.reflect_entries.specs.Entries.{value_at}
-use Rattle.reflect_message.specs.Held.{UpdatesField, fields_of}
+use Rattle.reflect_message.specs.Held.{UpdatesField}
 use Rattle.reflect_message.specs.Names.{DynamicMessage}
-use Rattle.reflect_options.specs.Settled.{IsType, SetsAll, Settles, is_forbidden, truth_in, truth_said}
-use Rattle.reflect_tables.specs.Types.{FieldType}
+use Rattle.reflect_options.specs.Settled.{IsType, Settles, is_forbidden, truth_in, truth_said}
 use Rattle.text_view.specs.SourceNames.{HaveOwnNames}
 use Rattle.settled_options.proofs.Kept.{type_kept}
 use Rattle.settled_options.proofs.Stored.{list_unset}
 use Rattle.stored_options.proofs.OwnTruth.{all_tell, said_at, truth_at}
-use Rattle.stored_options.proofs.Again.{no_items}
-use Rattle.stored_options.proofs.Scoped.{option_type, truth_known, type_sound}
-use Rattle.stored_options.proofs.StoredTruths.{none_stored}
+use Rattle.stored_options.proofs.Copied.{read_copied}
+use Rattle.stored_options.proofs.Scoped.{option_type, type_sound}
+use Rattle.stored_options.proofs.StoredTruths.{stored_at}
+use Rattle.stored_options.specs.CopiedOptions.{AreCopied}
 
 -- ---- what no source may set
 
@@ -51,11 +49,6 @@ none_written (o ∷ os) h = by (none_written os (λ k d lt. h (suc k) d (omega (
   by rest false e = ap (λ b. cond b (truth_of (option_view o).identifier_value) (written_truth (codes "map_entry") (map option_view os))) e ∙ rest
 
 -- ---- the truth value that is read
-
-surely : (t : Option Bool) → unwrap_or t false ≡ true → t ≡ Some true
-surely None e = absurd (cc e)
-surely (Some true) e = refl
-surely (Some false) e = absurd (cc e)
 
 module _ (scope : OptionScope) (s : NameScope) (o settled : Options) (paths : List (List ℤ)) (sound : IsSound s.pool.now)
     (names : HaveOwnNames s.pool.now) (can : CanRead s.pool.now scope) (is : Settles scope s o (options_view settled) paths) where
@@ -91,57 +84,53 @@ module _ (scope : OptionScope) (s : NameScope) (o settled : Options) (paths : Li
     whole_says : truth_said n whole ≡ truth_at n set
     whole_says = said_at stored.descriptor its_sound n name has.0 has.1 has.2 whole (unset.same_type ∙ set_type) ∙ ap truth_in (unset.field.others n other)
 
-    -- of what a source wrote the one that is written
-    written_said : o.encoded.items ≡ [] → truth_said n whole ≡ written_truth name (map option_view o.uninterpreted_option.items)
-    written_said empty =
-        let f = known stored.descriptor n has.0 (truth_known stored.descriptor.pool.now its_sound stored.descriptor.index n name has.0 has.1 has.2) in
-        let number = ap (λ (t : FieldType). t.number) f.2 ∙ f.3 in
-        let none = subst (λ k. value_at (fields_of stored) k ≡ None) number (none_stored stored (subst (λ bytes. IsSpelled stored.descriptor bytes stored) empty spelled) f.0 f.1) in
+    -- it is what is written, else what the stored bytes say
+    written_said : (fs : List Field) → SpellsFields 100 o.encoded.items fs → (b : Option Bool) → IsLast IsBool (values_at n fs) b
+        → truth_said n whole ≡ written_or (written_truth name (map option_view o.uninterpreted_option.items)) b
+    written_said fs reads b read =
         whole_says
-        ∙ (all_tell stored.descriptor its_sound n name has.0 has.1 has.2 (subst HaveOwnNames (sym type.0) names) s o.uninterpreted_option.items stored set paths is.1.3.3 refl is.1.3.2.3).0 none
+        ∙ (all_tell stored.descriptor its_sound n name has.0 has.1 has.2 (subst HaveOwnNames (sym type.0) names) s o.uninterpreted_option.items stored set paths is.1.3.3 refl is.1.3.2.3).0
+        ∙ ap (written_or (written_truth name (map option_view o.uninterpreted_option.items))) (stored_at stored its_sound o.encoded.items spelled n name has fs reads b read)
 
-    -- where nothing was written the one that is stored
-    stored_said : o.uninterpreted_option.items ≡ [] → truth_said n whole ≡ truth_said n stored
-    stored_said left =
-        let sets = subst (λ os. SetsAll s os stored set paths) left is.1.3.3 in
-        whole_says ∙ ap (truth_at n) sets.0 ∙ sym (said_at stored.descriptor its_sound n name has.0 has.1 has.2 stored refl)
+-- what linking reads of them is what is read of the bytes, over which stands what is written
+pub copied_as_before : (scope : OptionScope) (s : NameScope) (o settled : Options) (paths : List (List ℤ)) → IsSound s.pool.now
+    → HaveOwnNames s.pool.now → CanRead s.pool.now scope
+    → AreCopied scope (options_view o) → Settles scope s o (options_view settled) paths → (settled.packed ≡ o.packed) × (settled.allow_alias ≡ o.allow_alias) × (settled.map_entry ≡ o.map_entry)
+copied_as_before scopes.Field s o settled paths sound names can (before, reads, same) is = (
+  ap (λ (c : OptionsContent). c.packed) is.1.4.0
+      ∙ written_said scopes.Field s o settled paths sound names can is 2 (codes "packed") (option scopes.Field s o settled paths sound names can is).typed (λ e. omega (arith, e))
+      reads.fields (subst (λ bytes. SpellsFields 100 bytes reads.fields) (sym (ap (λ (c : OptionsContent). c.encoded) same)) reads.spelled) before.packed reads.packed
+      ∙ ap (λ os. written_or (written_truth (codes "packed") os) before.packed) (ap (λ (c : OptionsContent). c.uninterpreted_option) same)
+      ∙ sym (ap (λ (c : OptionsContent). c.packed) same),
+  ap (λ (c : OptionsContent). c.allow_alias) is.1.4.0 ∙ sym (ap (λ (c : OptionsContent). c.allow_alias) same ∙ reads.allow_alias),
+  ap (λ (c : OptionsContent). c.map_entry) is.1.4.0 ∙ sym (ap (λ (c : OptionsContent). c.map_entry) same ∙ reads.map_entry),
+)
+copied_as_before scopes.Enum s o settled paths sound names can (before, reads, same) is = (
+  ap (λ (c : OptionsContent). c.packed) is.1.4.0 ∙ sym (ap (λ (c : OptionsContent). c.packed) same ∙ reads.packed),
+  ap (λ (c : OptionsContent). c.allow_alias) is.1.4.0
+      ∙ written_said scopes.Enum s o settled paths sound names can is 2 (codes "allow_alias") (option scopes.Enum s o settled paths sound names can is).typed (λ e. omega (arith, e))
+      reads.fields (subst (λ bytes. SpellsFields 100 bytes reads.fields) (sym (ap (λ (c : OptionsContent). c.encoded) same)) reads.spelled) before.allow_alias reads.allow_alias
+      ∙ ap (λ os. written_or (written_truth (codes "allow_alias") os) before.allow_alias) (ap (λ (c : OptionsContent). c.uninterpreted_option) same)
+      ∙ sym (ap (λ (c : OptionsContent). c.allow_alias) same),
+  ap (λ (c : OptionsContent). c.map_entry) is.1.4.0 ∙ sym (ap (λ (c : OptionsContent). c.map_entry) same ∙ reads.map_entry),
+)
+copied_as_before scopes.Message s o settled paths sound names can (before, reads, same) is = (
+  ap (λ (c : OptionsContent). c.packed) is.1.4.0 ∙ sym (ap (λ (c : OptionsContent). c.packed) same ∙ reads.packed),
+  ap (λ (c : OptionsContent). c.allow_alias) is.1.4.0 ∙ sym (ap (λ (c : OptionsContent). c.allow_alias) same ∙ reads.allow_alias),
+  ap (λ (c : OptionsContent). c.map_entry) is.1.4.0
+      ∙ written_said scopes.Message s o settled paths sound names can is 7 (codes "map_entry") (option scopes.Message s o settled paths sound names can is).typed (λ e. omega (arith, e))
+      reads.fields (subst (λ bytes. SpellsFields 100 bytes reads.fields) (sym (ap (λ (c : OptionsContent). c.encoded) same)) reads.spelled) before.map_entry reads.map_entry
+      ∙ ap (λ t. written_or t before.map_entry) (none_written o.uninterpreted_option.items is.0)
+      ∙ sym (ap (λ (c : OptionsContent). c.map_entry) same),
+)
+copied_as_before scope s o settled paths sound names can (before, reads, same) is = (
+  ap (λ (c : OptionsContent). c.packed) is.1.4.0 ∙ sym (ap (λ (c : OptionsContent). c.packed) same ∙ reads.packed),
+  ap (λ (c : OptionsContent). c.allow_alias) is.1.4.0 ∙ sym (ap (λ (c : OptionsContent). c.allow_alias) same ∙ reads.allow_alias),
+  ap (λ (c : OptionsContent). c.map_entry) is.1.4.0 ∙ sym (ap (λ (c : OptionsContent). c.map_entry) same ∙ reads.map_entry),
+)
 
+-- so it is of options of sources
 pub said_as_before : (scope : OptionScope) (s : NameScope) (o settled : Options) (paths : List (List ℤ)) → IsSound s.pool.now
     → HaveOwnNames s.pool.now → CanRead s.pool.now scope
     → AreAsRead scope (options_view o) → Settles scope s o (options_view settled) paths → (settled.packed ≡ o.packed) × (settled.allow_alias ≡ o.allow_alias) × (settled.map_entry ≡ o.map_entry)
-said_as_before scopes.Field s o settled paths sound names can (inl given) is = (
-  ap (λ (c : OptionsContent). c.packed) is.1.4.0
-      ∙ written_said scopes.Field s o settled paths sound names can is 2 (codes "packed") (option scopes.Field s o settled paths sound names can is).typed (λ e. omega (arith, e)) (ap (λ (c : OptionsContent). c.encoded) given)
-      ∙ sym (ap (λ (c : OptionsContent). c.packed) given),
-  ap (λ (c : OptionsContent). c.allow_alias) is.1.4.0 ∙ sym (ap (λ (c : OptionsContent). c.allow_alias) given),
-  ap (λ (c : OptionsContent). c.map_entry) is.1.4.0 ∙ sym (ap (λ (c : OptionsContent). c.map_entry) given),
-)
-said_as_before scopes.Enum s o settled paths sound names can (inl given) is = (
-  ap (λ (c : OptionsContent). c.packed) is.1.4.0 ∙ sym (ap (λ (c : OptionsContent). c.packed) given),
-  ap (λ (c : OptionsContent). c.allow_alias) is.1.4.0
-      ∙ written_said scopes.Enum s o settled paths sound names can is 2 (codes "allow_alias") (option scopes.Enum s o settled paths sound names can is).typed (λ e. omega (arith, e)) (ap (λ (c : OptionsContent). c.encoded) given)
-      ∙ sym (ap (λ (c : OptionsContent). c.allow_alias) given),
-  ap (λ (c : OptionsContent). c.map_entry) is.1.4.0 ∙ sym (ap (λ (c : OptionsContent). c.map_entry) given),
-)
-said_as_before scopes.Message s o settled paths sound names can (inl given) is = (
-  ap (λ (c : OptionsContent). c.packed) is.1.4.0 ∙ sym (ap (λ (c : OptionsContent). c.packed) given),
-  ap (λ (c : OptionsContent). c.allow_alias) is.1.4.0 ∙ sym (ap (λ (c : OptionsContent). c.allow_alias) given),
-  ap (λ (c : OptionsContent). c.map_entry) is.1.4.0
-      ∙ written_said scopes.Message s o settled paths sound names can is 7 (codes "map_entry") (option scopes.Message s o settled paths sound names can is).typed (λ e. omega (arith, e)) (ap (λ (c : OptionsContent). c.encoded) given)
-      ∙ none_written o.uninterpreted_option.items is.0 ∙ sym (ap (λ (c : OptionsContent). c.map_entry) given),
-)
-said_as_before scopes.Message s o settled paths sound names can (inr given) is = (
-  ap (λ (c : OptionsContent). c.packed) is.1.4.0 ∙ sym (ap (λ (c : OptionsContent). c.packed) given.1),
-  ap (λ (c : OptionsContent). c.allow_alias) is.1.4.0 ∙ sym (ap (λ (c : OptionsContent). c.allow_alias) given.1),
-  ap (λ (c : OptionsContent). c.map_entry) is.1.4.0
-      ∙ stored_said scopes.Message s o settled paths sound names can is 7 (codes "map_entry") (option scopes.Message s o settled paths sound names can is).typed (λ e. omega (arith, e))
-      (no_items o.uninterpreted_option.items (ap (λ (c : OptionsContent). c.uninterpreted_option) given.1))
-      ∙ surely (truth_said 7 is.1.3.0) (is.1.3.2.2 ∙ ap (λ (c : OptionsContent). unwrap_or c.map_entry false) given.1)
-      ∙ sym (ap (λ (c : OptionsContent). c.map_entry) given.1),
-)
-said_as_before scope s o settled paths sound names can (inl given) is = (
-  ap (λ (c : OptionsContent). c.packed) is.1.4.0 ∙ sym (ap (λ (c : OptionsContent). c.packed) given),
-  ap (λ (c : OptionsContent). c.allow_alias) is.1.4.0 ∙ sym (ap (λ (c : OptionsContent). c.allow_alias) given),
-  ap (λ (c : OptionsContent). c.map_entry) is.1.4.0 ∙ sym (ap (λ (c : OptionsContent). c.map_entry) given),
-)
-said_as_before scope s o settled paths sound names can (inr given) is = absurd (cc given.0)
+said_as_before scope s o settled paths sound names can given is = copied_as_before scope s o settled paths sound names can (read_copied scope (options_view o) given) is

@@ -14,7 +14,7 @@ use Rattle.message_view.specs.Singles.{single_view}
 use Rattle.message_view.specs.Sound.{AreApart, IsSound}
 use Rattle.message_view.proofs.Fields.{owned}
 use Rattle.option_parts.specs.OptionTypes.{IsTruthValue}
-use Rattle.option_parts.specs.TypedOptions.{is_named, is_plain, truth_of, written_truth}
+use Rattle.option_parts.specs.TypedOptions.{is_named, is_plain, truth_of, written_or, written_truth}
 use Rattle.option_setter.specs.OptionNames.{NamesExtension, NamesField, NamesTarget}
 use Rattle.option_setter.specs.OptionValues.{IsSaid}
 use Rattle.option_setter.specs.SetOptions.{LeadsInto, PutsSaid, SetsLast, SetsParts, Unsets}
@@ -237,29 +237,29 @@ module _ (d : MessageDescriptor) (sound : IsSound d.pool.now) (n : ℕ) (name : 
           (λ e. absurd (cc e)),
         )
 
-    -- what the options say together
+    -- what the options say together, over what was set before; and where something was they do not say it
     pub all_tell : (s : NameScope) (os : List UninterpretedOption) (old new : DynamicMessage) (paths : List (List ℤ)) → SetsAll s os old new paths
         → old.descriptor ≡ d → IsExclusive old
-        → (value_at (fields_of old) n ≡ None → truth_at n new ≡ written_truth name (map option_view os)) × ((v : Value) → value_at (fields_of old) n ≡ Some v → value_at (fields_of new) n ≡ Some v)
-    all_tell s [] old new paths sets own sole =
-        let same = ap (λ (m : DynamicMessage). value_at (fields_of m) n) sets.0 in
-        ((λ none. ap truth_in (same ∙ none)), λ v at. same ∙ at)
+        → (truth_at n new ≡ written_or (written_truth name (map option_view os)) (truth_at n old)) × ((v : Value) → value_at (fields_of old) n ≡ Some v → written_truth name (map option_view os) ≡ None)
+    all_tell s [] old new paths sets own sole = (ap (truth_at n) sets.0, λ v at. refl)
     all_tell s (o ∷ os) old new paths sets own sole =
         let type : sets.0.descriptor ≡ old.descriptor = type_kept s (o ∷ []) old sets.0 (sets.1 ∷ []) (sets.0, sets.1, [], sets.3, (refl, refl), refl) in
         let next_sole = option_exclusive s o old sets.0 sets.1 (subst (λ (d : MessageDescriptor). AreApart d.pool.now) (sym own) sound.apart) sets.3 sole in
         by (all_tell s os sets.0 new sets.2 sets.4 (type ∙ own) next_sole) (parts_tell s (option_view o) 100 o.name.items old sets.0 sets.1 own sole sets.3) (is_named name (option_view o)) refl where
-          by : (value_at (fields_of sets.0) n ≡ None → truth_at n new ≡ written_truth name (map option_view os)) × ((v : Value) → value_at (fields_of sets.0) n ≡ Some v → value_at (fields_of new) n ≡ Some v)
+          by : (truth_at n new ≡ written_or (written_truth name (map option_view os)) (truth_at n sets.0)) × ((v : Value) → value_at (fields_of sets.0) n ≡ Some v → written_truth name (map option_view os) ≡ None)
               → Tells (is_named name (option_view o)) (option_view o) old sets.0 → (b : Bool) → is_named name (option_view o) ≡ b
-              → (value_at (fields_of old) n ≡ None → truth_at n new ≡ written_truth name (map option_view (o ∷ os))) × ((v : Value) → value_at (fields_of old) n ≡ Some v → value_at (fields_of new) n ≡ Some v)
+              → (truth_at n new ≡ written_or (written_truth name (map option_view (o ∷ os))) (truth_at n old)) × ((v : Value) → value_at (fields_of old) n ≡ Some v → written_truth name (map option_view (o ∷ os)) ≡ None)
           by rest step true e =
-              let told = step.1 e in (
-                (λ none. ap truth_in (rest.1 told.3 told.4) ∙ told.5 ∙ sym told.1 ∙ sym (ap (λ b. cond b (truth_of (option_view o).identifier_value) (written_truth name (map option_view os))) e)),
+              let told = step.1 e in
+              let says : written_truth name (map option_view (o ∷ os)) ≡ Some told.0 = ap (λ b. cond b (truth_of (option_view o).identifier_value) (written_truth name (map option_view os))) e ∙ told.1 in (
+                rest.0 ∙ ap (λ (t : Option Bool). written_or t (truth_at n sets.0)) (rest.1 told.3 told.4) ∙ ap truth_in told.4 ∙ told.5 ∙ sym (ap (λ (t : Option Bool). written_or t (truth_at n old)) says),
                 (λ v at. absurd (cc (sym at ∙ told.2))),
               )
-          by rest step false e = (
-            (λ none. rest.0 (step.0 e ∙ none) ∙ sym (ap (λ b. cond b (truth_of (option_view o).identifier_value) (written_truth name (map option_view os))) e)),
-            (λ v at. rest.1 v (step.0 e ∙ at)),
-          )
+          by rest step false e =
+              let says : written_truth name (map option_view (o ∷ os)) ≡ written_truth name (map option_view os) = ap (λ b. cond b (truth_of (option_view o).identifier_value) (written_truth name (map option_view os))) e in (
+                rest.0 ∙ ap (λ u. written_or (written_truth name (map option_view os)) (truth_in u)) (step.0 e) ∙ sym (ap (λ (t : Option Bool). written_or t (truth_at n old)) says),
+                (λ v at. says ∙ rest.1 v (step.0 e ∙ at)),
+              )
 
   -- ---- what a message says
 

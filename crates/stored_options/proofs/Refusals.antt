@@ -21,7 +21,7 @@ use Rattle.plain_records.specs.SaidOptions.{SaysAndIsSettled}
 use Rattle.protobuf_model.specs.Coded.{IsAccepted}
 use Rattle.protobuf_model.specs.Values.{Message}
 use Rattle.reflect_codec.specs.Meaning.{is_message}
-use Rattle.reflect_codec.specs.Reading.{IsBool, IsLast, IsLastIf, fields_in, values_at}
+use Rattle.reflect_codec.specs.Reading.{IsBool, IsLastIf, values_at}
 use Rattle.reflect_decode.specs.Spelled.{IsSpelled, TellsWhy}
 use Rattle.reflect_message.specs.Bytes.{message_bytes}
 use Rattle.reflect_message.specs.Names.{DynamicMessage}
@@ -31,8 +31,7 @@ use Rattle.reflect_wire.specs.Written.{AreBytes}
 use Rattle.reflect_wire.specs.declared.wire_error.WireError.{WireError}
 use Rattle.reflect_wire.specs.declared.wire_error.WireError.TheVariants as errors
 use Rattle.stored_options.specs.StoredOptions.{AreStored}
-use Rattle.stored_options.proofs.Again.{no_items, same_bytes, same_type, short, stored_bytes}
-use Rattle.stored_options.proofs.Alike.{one_last}
+use Rattle.stored_options.proofs.Again.{no_items, same_bytes, same_type, short}
 use Rattle.stored_options.proofs.Scoped.{of_type, option_type, type_sound}
 use Rattle.stored_options.proofs.StoredTruths.{stored_truth}
 
@@ -68,17 +67,12 @@ module _ (scope : OptionScope) (s : NameScope) (o : Options) (m : Message) (soun
     agrees : scope ≡ scopes.Message → (n : DynamicMessage) → n.descriptor ≡ d → IsSpelled d o.encoded.items n
         → unwrap_or (truth_said 7 n) false ≡ unwrap_or o.map_entry false
     agrees is n there spelled =
-        let rs = says.0.spelled.0 in
         let type = subst (IsType scope s) (sym there) its in
         let spelled_so = subst (λ (d : MessageDescriptor). IsSpelled d o.encoded.items n) (sym there) spelled in
-        let n_sound = type_sound scope s n.descriptor type sound in
-        let bytes = stored_bytes n n_sound o.encoded.items are (short o.encoded) spelled_so m (of_type scope s n.descriptor type (λ types t. AreFormOf types t m o.encoded.items) formed.0) in
         let has = subst (λ c. IfSome (typed_option c) (λ t. HasField n.descriptor.pool.now n.descriptor.index t.1 (IsTruthValue t.0))) is (option_type scope s n.descriptor type can).typed in
-        let read = stored_truth n n_sound o.encoded.items spelled_so bytes 7 (codes "map_entry") has 100 rs says.0.spelled.1 in
         let said = subst (λ c. IsLastIf (is_message (kind_of c)) IsBool (values_at 7 says.0.fields) says.0.options.map_entry) is says.0.said.map_entry in
         ap (λ t. unwrap_or t false)
-        (one_last (values_at 7 (fields_in rs)) (truth_said 7 n) says.0.options.map_entry read (subst (λ fs. IsLast IsBool (values_at 7 fs) says.0.options.map_entry) says.0.spelled.2 said)
-        ∙ ap (λ (c : OptionsContent). c.map_entry) says.0.is)
+        (stored_truth n (type_sound scope s n.descriptor type sound) o.encoded.items spelled_so 7 (codes "map_entry") has says.0.fields says.0.spelled says.0.options.map_entry said ∙ ap (λ (c : OptionsContent). c.map_entry) says.0.is)
 
     refuses_stored : (c : OptionScope) → scope ≡ c → (e : OptionErrorKind) → (e ≡ kinds.UndecodableOptions (Some errors.Memory) → ⊥) → RefusesStored c d o e → ⊥
     refuses_stored c is (kinds.UndecodableOptions (Some w)) other h = refuses_none w (λ same. other (ap (λ w. kinds.UndecodableOptions (Some w)) same)) h

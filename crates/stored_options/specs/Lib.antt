@@ -1,1 +1,2 @@
 pub mod StoredOptions
+pub mod CopiedOptions
