@@ -8,6 +8,8 @@ pub mod TextsAlike
 pub mod PlainRecords
 pub mod OwnSets
 pub mod MadeOf
+pub mod GivenOptions
+pub mod Grown
 pub mod OwnRefused
 pub mod OwnSchemas
 pub mod Lists

@@ -1,5 +1,5 @@
--- Schemas that sources made.
-use Rattle.std.specs.Prelude.{◌≡◌, ◌<◌, ◌^◌, ℕ, List, [], ◌∷◌, Some, length, true}
+-- Schemas that sources made, or sources and sets, and those that their own sets make.
+use Rattle.std.specs.Prelude.{◌≡◌, ◌<◌, ◌^◌, ℕ, zero, suc, List, [], ◌∷◌, Some, length, true}
 use Rattle.option_parts.specs.declared.option_error.OptionErrorKind.TheVariants.{UndecodableOptions}
 use Rattle.reflect_bytes.specs.Written.{pool_bytes}
 use Rattle.reflect_passes.specs.Errors.{is_memory}
@@ -9,6 +9,7 @@ use Rattle.schema_core.specs.Refusals.{IsPool, SetLinked, SourcesLinked}
 use Rattle.schema_core.specs.declared.error.SchemaError.{SchemaError}
 use Rattle.schema_core.specs.declared.error.SchemaError.TheVariants.{Link, Memory, Options}
 use Rattle.schema_core.specs.declared.schema.Schema.{Schema}
+use Rattle.schema_laws.specs.Batches.{Grows}
 
 -- sources that are added together, by name and text, and the batches of them, the last one first
 abbrev pub SourceBatches : Type 0
@@ -20,10 +21,13 @@ IsMadeOf [] s = s.pool ≡ empty_pool
 IsMadeOf (sources ∷ earlier) s =
     (old : Schema) × IsMadeOf earlier old × SourcesLinked old.pool sources s.pool × IsPool s.pool
 
--- sources made the first schema, whose own set is no longer than a length can say, and the second
--- is made of that set
-pub record IsDetour (batches : SourceBatches) (s t : Schema) : Type 0 where
-  pub made : IsMadeOf batches s
+-- a schema without files to which sources, or a set, were added so many times
+abbrev pub IsGrown : ℕ → Schema → Type 0
+IsGrown zero s = s.pool ≡ empty_pool
+IsGrown (suc n) s = (old : Schema) × IsGrown n old × Grows old s
+
+-- the own set of the first schema is no longer than a length can say, and the second is made of it
+pub record IsDetour (s t : Schema) : Type 0 where
   pub short : length (pool_bytes s.pool) < 2 ^ 64
   pub pool : IsPool t.pool
   pub linked : SetLinked empty_pool (pool_bytes s.pool) t.pool
