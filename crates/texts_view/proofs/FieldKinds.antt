@@ -88,7 +88,8 @@ first_found : {X : Type 0} (test : NumberedValue → Bool) (give : NumberedValue
     → ((v : EnumValueContent) (vs : List EnumValueContent) → said (v ∷ vs)
     ≡ or_else (when (test (numbered_value v)) (give (numbered_value v))) (said vs))
     → (vs : List EnumValueContent) (xs : List ValueType) → map numbered_value vs ≡ map numbered xs
-    → option_map (λ x. give (numbered x)) (find (λ x. test (numbered x)) xs) ≡ said vs
+    → option_map (λ (x : ValueType). give (numbered x))
+    (find (λ (x : ValueType). test (numbered x)) xs) ≡ said vs
 first_found test give said none one [] [] e = sym none
 first_found test give said none one [] (x ∷ xs) e = absurd (cc e)
 first_found test give said none one (v ∷ vs) [] e = absurd (cc e)
