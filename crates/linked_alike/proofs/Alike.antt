@@ -4,7 +4,7 @@ use Rattle.std.proofs.Common.{◌≡◌, ◌≤◌, ℕ, List, [], map, Bool, co
 use Rattle.std.specs.List.{Contains}
 use Rattle.descriptor_records.specs.Content.{Text, OptionsContent, FileContent}
 use Rattle.schema_view.specs.Files.{imports_of, is_proto3}
-use Rattle.schema_view.specs.Declarations.{MessageFacts, Body, of_message, of_field, of_oneof, of_enum, of_value, of_service, of_method, of_extension, Declaration, declarations}
+use Rattle.schema_view.specs.Declarations.{MessageFacts, Body, of_message, Declaration, declarations}
 use Rattle.schema_view.specs.References.{Reference, references}
 use Rattle.schema_view.specs.Outlines.{Outline, outline_of, AreApart}
 use Rattle.schema_view.specs.Means.{IsWanted}
@@ -21,33 +21,15 @@ use Rattle.linked_alike.proofs.Sound.{says_alike, sound_alike}
 
 keeps_read : (os : List Outline) (b : Body) → KeepsNumber os (read_body b) ≡ KeepsNumber os b
 keeps_read os (of_message m) = refl
-keeps_read os (of_field f) = refl
-keeps_read os (of_oneof o) = refl
-keeps_read os (of_enum e) = refl
-keeps_read os (of_value v) = refl
-keeps_read os (of_service s) = refl
-keeps_read os (of_method m) = refl
-keeps_read os (of_extension x) = refl
+keeps_read os b = refl
 
 suits_read : (os : List Outline) (b : Body) → SuitsEnum os (read_body b) ≡ SuitsEnum os b
 suits_read os (of_message m) = refl
-suits_read os (of_field f) = refl
-suits_read os (of_oneof o) = refl
-suits_read os (of_enum e) = refl
-suits_read os (of_value v) = refl
-suits_read os (of_service s) = refl
-suits_read os (of_method m) = refl
-suits_read os (of_extension x) = refl
+suits_read os b = refl
 
 map_use_read : (full : Text) (b : Body) → IsMapUse full (read_body b) ≡ IsMapUse full b
 map_use_read full (of_message m) = refl
-map_use_read full (of_field f) = refl
-map_use_read full (of_oneof o) = refl
-map_use_read full (of_enum e) = refl
-map_use_read full (of_value v) = refl
-map_use_read full (of_service s) = refl
-map_use_read full (of_method m) = refl
-map_use_read full (of_extension x) = refl
+map_use_read full b = refl
 
 -- what holds of bodies whatever their other options holds of bodies that differ in these
 carried : (P : Body → Type 0) → ((b : Body) → P (read_body b) ≡ P b) → (b c : Body)
@@ -63,23 +45,11 @@ settled_alike os b c e is = record {
 
 pub key_read : (k : Key) (b : Body) → has_key k (read_body b) ≡ has_key k b
 key_read k (of_message m) = refl
-key_read k (of_field f) = refl
-key_read k (of_oneof o) = refl
-key_read k (of_enum e) = refl
-key_read k (of_value v) = refl
-key_read k (of_service s) = refl
-key_read k (of_method m) = refl
-key_read k (of_extension x) = refl
+key_read k b = refl
 
 use_read : (full : Text) (b : Body) → is_use full (read_body b) ≡ is_use full b
 use_read full (of_message m) = refl
-use_read full (of_field f) = refl
-use_read full (of_oneof o) = refl
-use_read full (of_enum e) = refl
-use_read full (of_value v) = refl
-use_read full (of_service s) = refl
-use_read full (of_method m) = refl
-use_read full (of_extension x) = refl
+use_read full b = refl
 
 -- the types of map entries
 abbrev message_options : Body → Option OptionsContent

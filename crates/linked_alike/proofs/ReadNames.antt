@@ -10,7 +10,7 @@ use Rattle.descriptor_records.specs.Content.{Text, FieldContent, EnumValueConten
 use Rattle.reflect_pool.specs.Dots.{without_dot}
 use Rattle.protobuf_model.specs.Types.{Name}
 use Rattle.protobuf_model.specs.Values.{Message}
-use Rattle.schema_view.specs.Declarations.{Body, of_message, of_field, of_oneof, of_enum, of_value, of_service, of_method, of_extension, FieldFacts, MessageFacts, facts_of}
+use Rattle.schema_view.specs.Declarations.{Body, of_message, FieldFacts, MessageFacts, facts_of}
 use Rattle.schema_view.specs.Fields.{is_group, is_repeated}
 use Rattle.schema_view.specs.Files.{join, text_of}
 use Rattle.schema_view.specs.Lawful.{is_dotted}
@@ -54,13 +54,7 @@ name_of_value_read z vs = first_same
 
 extension_in_read : (b : Body) → extension_in (read_body b) ≡ option_map read_field (extension_in b)
 extension_in_read (of_message m) = refl
-extension_in_read (of_field f) = refl
-extension_in_read (of_oneof o) = refl
-extension_in_read (of_enum e) = refl
-extension_in_read (of_value v) = refl
-extension_in_read (of_service s) = refl
-extension_in_read (of_method m) = refl
-extension_in_read (of_extension x) = refl
+extension_in_read b = refl
 
 shares_read : (m : Option MessageFacts) (f : FieldContent)
     → shares (option_map read_facts m) (read_field f) ≡ shares m f

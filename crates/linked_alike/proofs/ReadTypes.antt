@@ -8,12 +8,12 @@ use Rattle.protobuf_model.specs.Values.{enumerated}
 use Rattle.protobuf_model.specs.Types.{Kind, scalar, one, many, keyed}
 use Rattle.protobuf_model.specs.Types as kinds
 use Rattle.schema_view.specs.Files.{text_of}
-use Rattle.schema_view.specs.Declarations.{MessageFacts, Body, of_message, of_field, of_oneof, of_enum, of_value, of_service, of_method, of_extension}
+use Rattle.schema_view.specs.Declarations.{MessageFacts, Body, of_enum, of_message}
 use Rattle.schema_view.specs.Rules.{is_number}
 use Rattle.schema_view.specs.Views.{FileFacts, Held, View, when, view_of}
 use Rattle.schema_view.specs.Fields.{is_repeated, is_packable, packed_option, asks_packed, has_presence}
-use Rattle.schema_view.specs.Types.{undotted, type_name, message_in, enum_in, field_in, body_at, message_at, field_at, type_at, says_proto3, is_proto3_at, number_in, value_number, first_number, values_of, kind_of, zero_of, said_of, default_of, part_of, named_in, name_of_field, is_entry, names_entry, entry_part, key_of, oneof_in, map_field, plain_field, held_field, field_named, own_named, extension_named, types_of}
-use Rattle.linked_alike.specs.ReadOptions.{read_options, read_field, read_value, read_enum, read_file}
+use Rattle.schema_view.specs.Types.{undotted, type_name, message_in, field_in, body_at, message_at, field_at, type_at, says_proto3, is_proto3_at, number_in, value_number, first_number, values_of, kind_of, zero_of, said_of, default_of, part_of, named_in, name_of_field, is_entry, names_entry, entry_part, key_of, oneof_in, map_field, plain_field, held_field, field_named, own_named, extension_named, types_of}
+use Rattle.linked_alike.specs.ReadOptions.{read_options, read_field, read_value, read_file}
 use Rattle.linked_alike.proofs.Reading.{read_facts, read_body}
 use Rattle.linked_alike.proofs.ReadViews.{read_file_facts, read_held, read_view, first_same, of_views_alike}
 
@@ -27,33 +27,11 @@ and_then_mapped g f h e (Some x) = e x
 
 message_in_read : (b : Body) → message_in (read_body b) ≡ option_map read_facts (message_in b)
 message_in_read (of_message m) = refl
-message_in_read (of_field f) = refl
-message_in_read (of_oneof o) = refl
-message_in_read (of_enum e) = refl
-message_in_read (of_value v) = refl
-message_in_read (of_service s) = refl
-message_in_read (of_method m) = refl
-message_in_read (of_extension x) = refl
-
-enum_in_read : (b : Body) → enum_in (read_body b) ≡ option_map read_enum (enum_in b)
-enum_in_read (of_message m) = refl
-enum_in_read (of_field f) = refl
-enum_in_read (of_oneof o) = refl
-enum_in_read (of_enum e) = refl
-enum_in_read (of_value v) = refl
-enum_in_read (of_service s) = refl
-enum_in_read (of_method m) = refl
-enum_in_read (of_extension x) = refl
+message_in_read b = refl
 
 field_in_read : (b : Body) → field_in (read_body b) ≡ option_map read_field (field_in b)
 field_in_read (of_message m) = refl
-field_in_read (of_field f) = refl
-field_in_read (of_oneof o) = refl
-field_in_read (of_enum e) = refl
-field_in_read (of_value v) = refl
-field_in_read (of_service s) = refl
-field_in_read (of_method m) = refl
-field_in_read (of_extension x) = refl
+field_in_read b = refl
 
 -- what is in the body that is held, without other options
 pub in_held : {Y : Type 0} (g : Body → Option Y) (k : Y → Y)
@@ -104,13 +82,7 @@ is_entry_read m = entry_by m.options m
 values_read : (o : Option Body) → values_of (option_map read_body o) ≡ map read_value (values_of o)
 values_read None = refl
 values_read (Some (of_enum e)) = refl
-values_read (Some (of_message m)) = refl
-values_read (Some (of_field f)) = refl
-values_read (Some (of_oneof q)) = refl
-values_read (Some (of_value v)) = refl
-values_read (Some (of_service s)) = refl
-values_read (Some (of_method m)) = refl
-values_read (Some (of_extension x)) = refl
+values_read (Some b) = refl
 
 -- ---- what stands under names
 
@@ -134,7 +106,7 @@ module _ (v : View) where
   field_at_read n = ap (option_and_then field_in) (body_at_read n)
       ∙ in_held field_in read_field field_in_read (body_at v n)
 
-  pub type_at_read : (f : FieldContent) → type_at R f ≡ option_map read_body (type_at v f)
+  type_at_read : (f : FieldContent) → type_at R f ≡ option_map read_body (type_at v f)
   type_at_read f = by f.type_name where
     by : (o : Option Text) → option_and_then (λ t. body_at R (undotted t)) o
         ≡ option_map read_body (option_and_then (λ t. body_at v (undotted t)) o)

@@ -70,7 +70,7 @@ extension_at_read k f =
     ∙ first_same name read_declaration name (λ d. ap (λ b. when b d.name) (key_read k d.body))
     (declarations f)
 
-pub view_read : (fs : List FileContent) → view_of (map read_file fs) ≡ read_view (view_of fs)
+view_read : (fs : List FileContent) → view_of (map read_file fs) ≡ read_view (view_of fs)
 view_read fs = λ i. record {
   files = λ n. first_mapped (file_at n) read_file read_file_facts (file_at n)
       (file_at_read n) fs i;

@@ -137,13 +137,7 @@ refers_same : (n : Text) (b : Body)
     → references_of (record { name = n; body = read_body b })
     ≡ references_of (record { name = n; body = b })
 refers_same n (of_message m) = refl
-refers_same n (of_field f) = refl
-refers_same n (of_oneof o) = refl
-refers_same n (of_enum e) = refl
-refers_same n (of_value v) = refl
-refers_same n (of_service s) = refl
-refers_same n (of_method m) = refl
-refers_same n (of_extension x) = refl
+refers_same n b = refl
 
 pub references_read : (f : FileContent) → references (read_file f) ≡ references f
 references_read f =
@@ -156,13 +150,8 @@ references_read f =
 sort_same : (b : Body) → sort_of (read_body b) ≡ sort_of b
 sort_same (of_message m) = ap (λ rs. message_sort rs (map reserved_range m.reserved))
     (map_same extension_range read_range extension_range (λ r. refl) m.extensions)
-sort_same (of_field f) = refl
-sort_same (of_oneof o) = refl
 sort_same (of_enum e) = ap enum_sort (map_same value_name read_value value_name (λ v. refl) e.value)
-sort_same (of_value v) = refl
-sort_same (of_service s) = refl
-sort_same (of_method m) = refl
-sort_same (of_extension x) = refl
+sort_same b = refl
 
 pub outline_read : (f : FileContent) → outline_of (read_file f) ≡ outline_of f
 outline_read f =

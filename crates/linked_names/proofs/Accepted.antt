@@ -128,7 +128,7 @@ module _ (old new : PoolType) (ns : List FileDescriptorProto) (w : Linking) (is 
   first_of j k m n e = let pair : ◌≡◌ {A = ℕ × ℕ} (j, m) (k, n) = cc e in
       ap (λ (p : ℕ × ℕ). p.0) pair
 
-  pub own_names : HaveOwnNames old → HaveOwnNames new
+  own_names : HaveOwnNames old → HaveOwnNames new
   own_names own = record {
     fields = fields_apart own;
     values = λ i j k lt less e. enum_apart own i j k lt less e;
@@ -238,7 +238,7 @@ module _ (old new : PoolType) (ns : List FileDescriptorProto) (w : Linking) (is 
           absurd (cc (sym (ap (λ (t : MessageType). t.entry) none.1) ∙ has))
     ]
 
-    pub source_pool : IsSourcePool new
+    source_pool : IsSourcePool new
     source_pool = record {
       scoped = scoped;
       names = record {

@@ -48,7 +48,7 @@ texts_same None = refl
 texts_same (Some s) = refl
 
 -- each file is declared
-pub file_there : (o : Offsets) (i : ℕ) (fs : List FileDescriptorProto) (k : ℕ)
+file_there : (o : Offsets) (i : ℕ) (fs : List FileDescriptorProto) (k : ℕ)
     (f : FileDescriptorProto) → slice_get fs k ≡ Some f
     → Among (file_declaration [] (i + k) f) (batch_declarations o i fs)
 file_there o i [] k f e = absurd (cc e)
@@ -92,7 +92,7 @@ module _ (old new : PoolType) (ns : List FileDescriptorProto) (w : Linking) (is 
       × Free w.known (given ds)
   wholes = along_free (batch_places ns w.first) (with_files w.indexes w.first ns) w.known ds none
 
-  pub complete : (x : Declaration) → Among x ds → IsCompleteBody (seen_body x.body)
+  complete : (x : Declaration) → Among x ds → IsCompleteBody (seen_body x.body)
   complete x h =
       of_all (λ (d : Declaration). IsCompleteBody (seen_body d.body)) x ds wholes.0 h
 
@@ -106,7 +106,7 @@ module _ (old new : PoolType) (ns : List FileDescriptorProto) (w : Linking) (is 
       omega (arith, sum, le))
 
   -- a declaration is known for itself by its name, for which nothing was known before
-  pub known_own : (d : Declaration) → Among d ds → is_some (seen_body d.body) ≡ true
+  known_own : (d : Declaration) → Among d ds → is_some (seen_body d.body) ≡ true
       → known d.name ≡ Some (definition_of d)
   known_own d h seen =
       let own = gives_name d seen (complete d h) in
@@ -192,7 +192,7 @@ module _ (old new : PoolType) (ns : List FileDescriptorProto) (w : Linking) (is 
         file = ap (λ (t : MessageType). t.file) at ∙ ap (λ (f : FullName). f.1) m.2;
       }
 
-  pub named_type : (i : ℕ) → i < length new.messages
+  named_type : (i : ℕ) → i < length new.messages
       → slice_get (names_of new messages) i ≡ Some ((type_at new i).full_name, (type_at new i).file)
   named_type i lt =
       get_map message_name new.messages i (type_at new i) (get_at new.messages i no_type lt)
@@ -215,7 +215,7 @@ module _ (old new : PoolType) (ns : List FileDescriptorProto) (w : Linking) (is 
       (ap (λ (f : FullName). f.0) pair, ap (λ (f : FullName). f.1) pair)
 
   -- no type has the name of a field
-  pub field_no_type : (d : Declaration) (r : FieldDescriptorProto) → Among d ds
+  field_no_type : (d : Declaration) (r : FieldDescriptorProto) → Among d ds
       → d.body ≡ of_field r → (i n : ℕ)
       → slice_get (names_of new messages) i ≡ Some (d.name, n) → ⊥
   field_no_type d r h body i n e =
@@ -229,9 +229,6 @@ module _ (old new : PoolType) (ns : List FileDescriptorProto) (w : Linking) (is 
 
   files_are : new.files ≡ map file_of olds ++ map record_file ns
   files_are = batch.added.files
-
-  old_count : length (map file_of olds) ≡ length old.files
-  old_count = ap (λ (p : PoolType). length p.files) is.tables
 
   -- nor has a package the name of a field
   module _ (d : Declaration) (r : FieldDescriptorProto) (h : Among d ds)
@@ -270,7 +267,7 @@ module _ (old new : PoolType) (ns : List FileDescriptorProto) (w : Linking) (is 
         let own : r.0 ≡ record { file = d.file; kind = kind.Field } = cc field in
         cc (sym (ap (λ (e : Definition). is_package e.kind) own) ∙ r.2)
 
-    pub field_no_package : (n : ℕ) → (file_type_at new n).package_name ≡ d.name
+    field_no_package : (n : ℕ) → (file_type_at new n).package_name ≡ d.name
         → (d.name ≡ [] → ⊥) → ⊥
     field_no_package n same some =
         elim (which record_file (map file_of olds) new.files ns n no_file files_are) [

@@ -36,7 +36,7 @@ identifier_undotted (b ∷ bs) e =
     let both = and_parts (is_in class.Letter b) (list_all (is_in class.Word) bs) e in
     more_undotted b bs (no_dot_in class.Letter b refl both.0) (word_undotted bs both.1)
 
-pub identifier_some : (n : Text) → is_identifier n ≡ true → n ≡ [] → ⊥
+identifier_some : (n : Text) → is_identifier n ≡ true → n ≡ [] → ⊥
 identifier_some n e none = cc (sym (ap is_identifier none) ∙ e)
 
 no_dot_behind : (b : ℕ) (bs : Text) → has_dot (b ∷ bs) ≡ false → has_dot bs ≡ false

@@ -60,7 +60,7 @@ known_among pool i n f e = by (numbered_field pool i n) refl where
       (of_find (λ (g : FieldType). g.number == n) h (type_at pool i).fields is).0
 
 -- fields that are in no oneof are in no one together
-pub alone_apart : (pool : PoolType) (i : ℕ)
+alone_apart : (pool : PoolType) (i : ℕ)
     → ((f : FieldType) → Among f (type_at pool i).fields → f.oneof ≡ None)
     → rival (field_at pool i) 2 1 ≡ false
 alone_apart pool i alone =

@@ -23,7 +23,7 @@ use Rattle.reflect_names.specs.ReferenceSteps.{target_of}
 use Rattle.reflect_references.specs.Meanings.{meaning}
 use Rattle.reflect_passes.specs.NameFaults.{name_faults}
 use Rattle.reflect_index.specs.Along.{AtHand, Met, along, before_files, hand_behind}
-use Rattle.reflect_tables.specs.Names.{place_in, place_of, with_file, names_of, messages}
+use Rattle.reflect_tables.specs.Names.{place_in, place_of, with_file, messages}
 use Rattle.reflect_tables.specs.Types.{PoolType, ArePooled, type_at}
 use Rattle.reflect_pool.specs.Imports.{imported_places}
 use Rattle.reflect_build.specs.Accepted.{FaultlessBatch}
@@ -31,8 +31,7 @@ use Rattle.reflect_build.specs.Refusals.{Linking, with_declared, IsOf}
 use Rattle.source_records.specs.SourceNames.{IsGroup}
 use Rattle.reflect_index.proofs.Among.{Among}
 use Rattle.linked_view.specs.AtHand.{kind_by}
-use Rattle.linked_view.proofs.AtHand.{at_hand, resolved_type}
-use Rattle.linked_view.proofs.Extensions.{left_behind}
+use Rattle.linked_view.proofs.AtHand.{at_hand, left_behind, resolved_type}
 use Rattle.linked_view.proofs.Faults.{none_both, unless_to}
 use Rattle.linked_view.proofs.Means.{resolved_to}
 use Rattle.linked_names.specs.SourcePools.{IsScoped}
@@ -159,12 +158,10 @@ module _ (old new : PoolType) (ns : List FileDescriptorProto) (w : Linking) (is 
         | inl same ↦ subst IsMet same
             (record { more = targets_along views xs; targets = e; none = parts.0 })
         | inr later ↦ all_met (hand_behind h d) xs parts.1
-            (left_behind (names_of new messages) knows
-            (messages_found old new ns w is pooled names batch) sees spots h.rest d d.body
-            (targets_along views xs) parts.0 e) m later
+            (left_behind views spots h.rest d d.body (targets_along views xs) parts.0 e) m later
       ]
 
-  pub met_all : (m : Met) → Among m (along (before_files batch.references) all) → IsMet m
+  met_all : (m : Met) → Among m (along (before_files batch.references) all) → IsMet m
   met_all = all_met (before_files batch.references) all (sym batch.means.right.faults)
       batch.means.right.targets
 

@@ -32,7 +32,7 @@ module _ (old new : PoolType) (b : Batch) (more : List FileType) (pooled : ArePo
   pub field_same : (j : ℕ) → type_of_field new i j ≡ type_of_field old i j
   field_same j = ap (λ (t : MessageType). slice_index_or t.fields j no_field) same
 
-  pub there_same : (j : ℕ) → j < length (type_at new i).fields
+  there_same : (j : ℕ) → j < length (type_at new i).fields
       → j < length (type_at old i).fields
   there_same j less = subst (λ (t : MessageType). j < length t.fields) same less
 

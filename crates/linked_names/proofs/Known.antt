@@ -121,7 +121,7 @@ from_given (x ∷ ds) d g (inl same) k =
 from_given (x ∷ ds) d g (inr h) k = in_second g (gives x) (given ds) (from_given ds d g h k)
 
 -- a file gives its package
-pub package_given : (file : ℕ) (s : Text) → (s ≡ [] → ⊥)
+package_given : (file : ℕ) (s : Text) → (s ≡ [] → ⊥)
     → Among (s, package_of file) (packages_given file (scopes s))
 package_given file [] some = absurd (some refl)
 package_given file (b ∷ bs) some =

@@ -169,36 +169,38 @@ module _ (files : List FileDescriptorProto) (first : ℕ) (ds : List Declaration
 
   -- ---- what nothing is said of
 
+  each_sourced : {A : Type 0} (one : ℕ → A → List Declaration)
+      → ((k : ℕ) (x : A) → AreSourced (one k x)) → (k : ℕ) (xs : List A)
+      → AreSourced (each one k xs)
+  each_sourced one quiet k [] = tt
+  each_sourced one quiet k (x ∷ xs) =
+      join_sourced (one k x) (each one (k + 1) xs) (quiet k x) (each_sourced one quiet (k + 1) xs)
+
   oneofs_sourced : (path : List ℤ) (scope : Text) (file parent k : ℕ)
       (os : List OneofDescriptorProto)
       → AreSourced (each (one_oneof path scope file parent) k os)
-  oneofs_sourced path scope file parent k [] = tt
-  oneofs_sourced path scope file parent k (o ∷ os) =
-      (tt, oneofs_sourced path scope file parent (k + 1) os)
+  oneofs_sourced path scope file parent =
+      each_sourced (one_oneof path scope file parent) (λ k o. (tt, tt))
 
   values_sourced : (path : List ℤ) (scope : Text) (file parent k : ℕ)
       (vs : List EnumValueDescriptorProto)
       → AreSourced (each (one_value path scope file parent) k vs)
-  values_sourced path scope file parent k [] = tt
-  values_sourced path scope file parent k (v ∷ vs) =
-      (tt, values_sourced path scope file parent (k + 1) vs)
+  values_sourced path scope file parent =
+      each_sourced (one_value path scope file parent) (λ k v. (tt, tt))
 
   methods_sourced : (path : List ℤ) (scope : Text) (file parent k : ℕ)
       (ms : List MethodDescriptorProto)
       → AreSourced (each (one_method path scope file parent) k ms)
-  methods_sourced path scope file parent k [] = tt
-  methods_sourced path scope file parent k (m ∷ ms) =
-      (tt, methods_sourced path scope file parent (k + 1) ms)
+  methods_sourced path scope file parent =
+      each_sourced (one_method path scope file parent) (λ k m. (tt, tt))
 
   services_sourced : (scope : Text) (file n k : ℕ) (ss : List ServiceDescriptorProto)
       → AreSourced (each (one_service scope file n) k ss)
-  services_sourced scope file n k [] = tt
-  services_sourced scope file n k (s ∷ ss) =
-      join_sourced (one_service scope file n k s) (each (one_service scope file n) (k + 1) ss) (
-        tt,
-        methods_sourced (entry [] (pos 6) k) (join scope (text_of s.name)) file (n + k) 0
-            s.method.items,
-      ) (services_sourced scope file n (k + 1) ss)
+  services_sourced scope file n = each_sourced (one_service scope file n) (λ k s. (
+    tt,
+    methods_sourced (entry [] (pos 6) k) (join scope (text_of s.name)) file (n + k) 0
+        s.method.items,
+  ))
 
   -- ---- enums and extensions
 

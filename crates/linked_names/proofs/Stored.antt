@@ -147,7 +147,7 @@ module _ (old new : PoolType) (ns : List FileDescriptorProto) (w : Linking) (is 
     pub file : (message_of m).file ≡ declaration.file
     pub parent : (message_of m).parent ≡ declaration.parent
 
-  pub headed : (k : ℕ) (m : StoredMessage) → slice_get stored.messages.items k ≡ Some m
+  headed : (k : ℕ) (m : StoredMessage) → slice_get stored.messages.items k ≡ Some m
       → IsHeaded k m
   headed k m at =
       let zipped = zip_place IsHeadOf (all_of is_message (along (before_files rs) all))
@@ -168,7 +168,7 @@ module _ (old new : PoolType) (ns : List FileDescriptorProto) (w : Linking) (is 
       }
 
   -- what is declared as a message has its name
-  pub type_called : (x : Declaration) (own : MessageParts) → Among x all
+  type_called : (x : Declaration) (own : MessageParts) → Among x all
       → x.body ≡ of_message own → (type_at new x.index).name ≡ text_of own.name
   type_called x own h body =
       let stands = stands_in_batch w.before w.first ns x own h body in
@@ -247,7 +247,7 @@ module _ (old new : PoolType) (ns : List FileDescriptorProto) (w : Linking) (is 
     pub at : slice_get own.value.items j ≡ Some record_of
     pub name : v.name ≡ text_of record_of.name
 
-  pub value_at : (e : StoredEnum) (d : IsEnumOf e) (j : ℕ) → j < length (enum_of e).values
+  value_at : (e : StoredEnum) (d : IsEnumOf e) (j : ℕ) → j < length (enum_of e).values
       → IsValueAt d.own j (value_in (enum_of e) j)
   value_at e d j lt =
       let v = got_map value_of e.values.list.items j (value_in (enum_of e) j)

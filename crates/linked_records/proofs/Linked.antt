@@ -30,39 +30,25 @@ fourteen_fits = omega (arith, ints)
 filled_fits : (o : Option ℤ) (k : DefinitionKind) → IfThere FitsInt32 o
     → IfThere FitsInt32 (filled o k)
 filled_fits (Some n) k h = h
-filled_fits None kind.Package h = eleven_fits
-filled_fits None (kind.Message i) h = eleven_fits
-filled_fits None kind.Field h = eleven_fits
-filled_fits None kind.Oneof h = eleven_fits
 filled_fits None (kind.Enum i) h = fourteen_fits
-filled_fits None kind.EnumValue h = eleven_fits
-filled_fits None (kind.Extension i) h = eleven_fits
-filled_fits None (kind.Service i) h = eleven_fits
-filled_fits None kind.Method h = eleven_fits
+filled_fits None k h = eleven_fits
 
 module _ (Says : OptionScope → OptionsContent → Type 0) where
   -- whatever the field's type is called
   called_plain : (levels : ℕ) (o : Option Text) (ts : List Target) (f : FieldContent)
       → IsPlainField Says levels f
       → IsPlainField Says levels (write_type ts (record f { type_name = o })).0
-  called_plain levels None ts f h = record {
-    number = h.number;
-    label = h.label;
-    field_type = h.field_type;
-    options = h.options;
-    oneof_index = h.oneof_index;
-  }
-  called_plain levels (Some name) [] f h = record {
-    number = h.number;
-    label = h.label;
-    field_type = h.field_type;
-    options = h.options;
-    oneof_index = h.oneof_index;
-  }
   called_plain levels (Some name) (t ∷ ts) f h = record {
     number = h.number;
     label = h.label;
     field_type = filled_fits f.field_type t.1.kind h.field_type;
+    options = h.options;
+    oneof_index = h.oneof_index;
+  }
+  called_plain levels o ts f h = record {
+    number = h.number;
+    label = h.label;
+    field_type = h.field_type;
     options = h.options;
     oneof_index = h.oneof_index;
   }

@@ -16,7 +16,7 @@ use Rattle.option_parts.specs.declared.option_scope.OptionScope.{OptionScope}
 use Rattle.option_parts.specs.declared.option_scope.OptionScope.TheVariants as scopes
 
 -- what holds of each item holds of each that is made of it
-pub all_mapped : {A B : Type 0} (P : A → Type 0) (Q : B → Type 0) (f : A → B) (xs : List A)
+all_mapped : {A B : Type 0} (P : A → Type 0) (Q : B → Type 0) (f : A → B) (xs : List A)
     → ((x : A) → P x → Q (f x)) → AllByRecursion P xs → AllByRecursion Q (map f xs)
 all_mapped P Q f [] each h = tt
 all_mapped P Q f (x ∷ xs) each h = (each x h.0, all_mapped P Q f xs each h.1)
@@ -163,7 +163,7 @@ module _ (P Q : OptionScope → OptionsContent → Type 0)
       weak_dependency = h.weak_dependency;
     }
 
-    pub typed_says : (files typed : List FileDescriptorProto)
+    typed_says : (files typed : List FileDescriptorProto)
         → ArePlainFiles P (map file_view files) → TypedFiles files typed
         → ArePlainFiles Q (map file_view typed)
     typed_says files typed plain same = subst (ArePlainFiles Q) (sym same)
@@ -207,13 +207,7 @@ waits : (scope : OptionScope) (o : OptionsContent) → SaysOrWaits scope o
     → SaysOrWaits scope (copied scope o)
 waits scopes.Field o h = packed_waits SaysItsBytes scopes.Field o h
 waits scopes.Enum o h = alias_waits SaysItsBytes scopes.Enum o h
-waits scopes.File o h = h
-waits scopes.Message o h = h
-waits scopes.Oneof o h = h
-waits scopes.EnumValue o h = h
-waits scopes.Service o h = h
-waits scopes.Method o h = h
-waits scopes.ExtensionRange o h = h
+waits scope o h = h
 
 pub typed_plain : (files typed : List FileDescriptorProto)
     → ArePlainFiles SaysOrWaits (map file_view files) → TypedFiles files typed
@@ -242,26 +236,13 @@ as_read_so scopes.Enum o h =
       | inl is ↦ inl (ap typed_alias is ∙ (λ i. record (as_written os) { allow_alias = alias i }))
       | inr entries ↦ absurd (cc entries.0)
     ]
-as_read_so scopes.Message o h = h
-as_read_so scopes.File o h = h
-as_read_so scopes.Oneof o h = h
-as_read_so scopes.EnumValue o h = h
-as_read_so scopes.Service o h = h
-as_read_so scopes.Method o h = h
-as_read_so scopes.ExtensionRange o h = h
+as_read_so scope o h = h
 
 -- of what they wrote nothing is changed
 numbers_stay : (scope : OptionScope) (o : OptionsContent) → HaveSmallNumbers o
     → HaveSmallNumbers (copied scope o)
 numbers_stay scopes.Field o h = h
-numbers_stay scopes.Enum o h = h
-numbers_stay scopes.Message o h = h
-numbers_stay scopes.File o h = h
-numbers_stay scopes.Oneof o h = h
-numbers_stay scopes.EnumValue o h = h
-numbers_stay scopes.Service o h = h
-numbers_stay scopes.Method o h = h
-numbers_stay scopes.ExtensionRange o h = h
+numbers_stay scope o h = h
 
 pub typed_given : (files typed : List FileDescriptorProto)
     → ArePlainFiles AreOfSource (map file_view files) → TypedFiles files typed

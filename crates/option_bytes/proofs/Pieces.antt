@@ -1,6 +1,6 @@
 -- Bytes of a whole are bytes of its pieces: of what is joined, of payloads, of repeated records.
 -- And the pieces that each record is written in.
-use Rattle.std.proofs.Common.{◌-◌, ℕ, zero, suc, List, [], ◌∷◌, ◌++◌, length, map, get_or}
+use Rattle.std.proofs.Common.{◌-◌, ℕ, zero, suc, List, [], ◌∷◌, length, map, get_or}
 use Rattle.std.specs.List.{AllByRecursion, concat}
 use Rattle.descriptor_records.specs.declared.enums.EnumDescriptorProto.{EnumDescriptorProto}
 use Rattle.descriptor_records.specs.declared.enums.EnumValueDescriptorProto.{EnumValueDescriptorProto}
@@ -19,16 +19,9 @@ use Rattle.reflect_wire.specs.Encoding.{delimited_bytes, key_bytes, varint_bytes
 use Rattle.reflect_wire.specs.Records.{key_of}
 use Rattle.reflect_wire.specs.Written.{AreBytes}
 use Rattle.codec_laws.specs.Plain.{IsInside}
+use Rattle.message_view.proofs.Plain.{back_bytes, front_bytes}
 
 -- ---- bytes of a whole
-
-pub front_bytes : (a b : List ℕ) → AreBytes (a ++ b) → AreBytes a
-front_bytes [] b all = tt
-front_bytes (x ∷ a) b all = (all.0, front_bytes a b all.1)
-
-pub back_bytes : (a b : List ℕ) → AreBytes (a ++ b) → AreBytes b
-back_bytes [] b all = all
-back_bytes (x ∷ a) b all = back_bytes a b all.1
 
 -- the bytes of the piece at a place
 pub piece_held : (xss : List (List ℕ)) (k : ℕ) → AreBytes (concat xss) → AreBytes (get_or xss k [])

@@ -109,17 +109,17 @@ module _ (batches : List (List FileContent)) (p : PoolType) (t : IsTyped batches
   reads_same : map read_file (map file_view more.typed.but.linked.records) ≡ map read_file (map file_view t.but.linked.records)
   reads_same = ap (λ gs. map read_file (map file_view gs)) linked_records ∙ ap (map read_file) linked_same ∙ alike
 
-  pub types_same : types_of new ≡ types_of p
+  types_same : types_of new ≡ types_of p
   types_same =
       settled_types _ new more.typed also ∙ types_alike (map file_view more.typed.but.linked.records) (map file_view t.but.linked.records) reads_same ∙ sym (settled_types batches p t kept)
 
-  pub names_same : (decoded : Name → List ℕ → Option Message) → schema_of new decoded ≡ schema_of p decoded
+  names_same : (decoded : Name → List ℕ → Option Message) → schema_of new decoded ≡ schema_of p decoded
   names_same decoded =
       settled_names _ new more.typed also decoded ∙ names_alike (map file_view more.typed.but.linked.records) (map file_view t.but.linked.records) decoded reads_same
       ∙ sym (settled_names batches p t kept decoded)
 
   -- a pool has its types whatever options its records have
-  pub linked_types : types_of linked ≡ types_of p
+  linked_types : types_of linked ≡ types_of p
   linked_types = sym (ap types_of settled) ∙ types_same
 
   -- ---- options
@@ -129,14 +129,14 @@ module _ (batches : List (List FileContent)) (p : PoolType) (t : IsTyped batches
         let both = files_both (λ scope o. AreBytes o.encoded) SaysAndIsSettled (λ scope o. AreBytes o.encoded × SaysAndIsSettled scope o) (λ scope o b s. (b, s)) records bytes plain in
         subst (ArePlainFiles (Keeps p)) (sym linked_same) (files_both (AreHeld p) (λ scope o. AreBytes o.encoded × SaysAndIsSettled scope o) (Keeps p) (λ scope o h b. (h, b)) records held both)
 
-    pub entities_keep : (k : ℕ) (f : FileDescriptorProto) → slice_get linked.records k ≡ Some f → AllByRecursion (Meets (λ file. said (Keeps p))) (file_entities k f)
+    entities_keep : (k : ℕ) (f : FileDescriptorProto) → slice_get linked.records k ≡ Some f → AllByRecursion (Meets (λ file. said (Keeps p))) (file_entities k f)
     entities_keep k f there =
         entities_say (Keeps p) k f (all_get (λ f. IsPlainFile (Keeps p) 99 (file_view f)) linked.records k f (all_mapped file_view (IsPlainFile (Keeps p) 99) linked.records all_keep) there)
 
     -- in a sound pool that has types to read options by
     module _ (sound : IsSound linked) (can : (scope : OptionScope) → CanRead linked scope) where
       -- options of an entity, where the pool has a type for them, are stored
-      pub are_stored : (scope : OptionScope) (o : Options) → Keeps p scope (options_view o) → HasType linked scope → (m : Message) × AreStored (types_of linked) scope m o.encoded.items
+      are_stored : (scope : OptionScope) (o : Options) → Keeps p scope (options_view o) → HasType linked scope → (m : Message) × AreStored (types_of linked) scope m o.encoded.items
       are_stored scope o keeps has = elim (keeps.0 keeps.1.0) [
         | inl stored ↦ (stored.1.0, subst (λ types. AreStored types scope stored.1.0 o.encoded.items) (sym linked_types) stored.1.1)
         | inr given ↦ stored_later scope linked o sound (has.0, has.1, can scope has.0 has.1) given.0.0 given.1
@@ -149,7 +149,7 @@ module _ (batches : List (List FileContent)) (p : PoolType) (t : IsTyped batches
           settled_again c.scope s o out paths stored.0 (subst IsSound (sym is) sound) (subst (λ p. CanRead p c.scope) (sym is) (can c.scope)) keeps.1.0
           (subst (λ p. AreStored (types_of p) c.scope stored.0 o.encoded.items) (sym is) stored.1) keeps.1.1 settle
 
-      pub settled_same : SettlesPool linked 0 new → map file_view new.records ≡ records
+      settled_same : SettlesPool linked 0 new → map file_view new.records ≡ records
       settled_same settles =
           pool_stays linked 0 new
           (λ k f there far. all_through (Meets (λ file. said (Keeps p))) (SettlesToItself linked) (file_entities k f) itself (entities_keep k f there)) settles

@@ -1,9 +1,8 @@
 -- What options are held as they are still held as when a batch of files is added.
-use Rattle.std.proofs.Common.{◌≡◌, ◌∙◌, List, [], ◌∷◌, map, Bool, Option, Some, None, inl, inr, ap, refl, sym, subst}
+use Rattle.std.proofs.Common.{◌≡◌, ◌∙◌, List, [], ◌∷◌, map, Option, Some, None, inl, inr, ap, refl, sym, subst}
 use Rattle.std.specs.List.{find}
 use Rattle.std.specs.Option.{option_map}
 use Rattle.std.specs.Str.{bytes_eq}
-use Rattle.std.proofs.lemmas.Slice.Eq.{bytes_eq-Decides}
 use Rattle.descriptor_records.specs.Content.{FileContent, OptionsContent, Text, file_view}
 use Rattle.known_messages.proofs.Grown.{forms_stay}
 use Rattle.message_view.specs.Types as pool
@@ -12,8 +11,7 @@ use Rattle.option_parts.specs.declared.option_scope.OptionScope.{OptionScope}
 use Rattle.protobuf_model.specs.Older.{IsOlder}
 use Rattle.protobuf_model.specs.Types.{Name}
 use Rattle.protobuf_model.specs.Values.{Message}
-use Rattle.reflect_scalar.proofs.First.{Tells, find_place, find_some}
-use Rattle.reflect_tables.specs.Types.{MessageType, PoolType, no_type}
+use Rattle.reflect_tables.specs.Types.{MessageType, PoolType}
 use Rattle.schema_view.specs.Declarations.{MessageFacts}
 use Rattle.schema_view.specs.Lawful.{AddsLawful}
 use Rattle.schema_view.specs.Types.{message_at}
@@ -28,6 +26,7 @@ use Rattle.types_view.specs.Pools.{IsKept}
 use Rattle.types_view.specs.Typed.{IsTyped}
 use Rattle.types_view.proofs.Settled.{settled_types}
 use Rattle.settled_options.proofs.Said.{no_dot}
+use Rattle.settled_options.proofs.ScopeTypes.{found_named, is_named, named_found}
 use Rattle.settled_again.specs.HeldOptions.{AreHeld, HasType}
 
 -- ---- types of options that a pool has
@@ -36,32 +35,20 @@ abbrev unread : Name → Text → Option Message
 unread t bytes = None
 
 module _ (p : PoolType) (scope : OptionScope) where
-  abbrev Named : MessageType → Type 0
-  Named m = m.full_name ≡ type_name scope
-
-  abbrev is_named : MessageType → Bool
-  is_named m = bytes_eq m.full_name (type_name scope)
-
-  named_tells : Tells Named is_named
-  named_tells = record {
-    says = λ m e. (bytes_eq-Decides m.full_name (type_name scope)).0 e;
-    passes = λ m e. (bytes_eq-Decides m.full_name (type_name scope)).1 e;
-  }
-
-  called_so : type_called p (type_name scope) ≡ option_map (λ (m : MessageType). m.full_name) (find is_named p.messages)
+  called_so : type_called p (type_name scope) ≡ option_map (λ (m : MessageType). m.full_name) (find (is_named scope) p.messages)
   called_so = ap (λ n. option_map (λ (m : MessageType). m.full_name) (find (λ (m : MessageType). bytes_eq m.full_name n) p.messages)) (no_dot scope)
 
   -- the first of the name is found by it
   type_called_so : HasType p scope → (t : Name) × (type_called p (type_name scope) ≡ Some t)
-  type_called_so (i, first) = (_, called_so ∙ ap (option_map (λ (m : MessageType). m.full_name)) (find_some Named is_named named_tells p.messages no_type i first))
+  type_called_so (i, first) = (_, called_so ∙ ap (option_map (λ (m : MessageType). m.full_name)) (named_found scope p i first))
 
   -- and what is found by it is there
   type_there : (t : Name) → type_called p (type_name scope) ≡ Some t → HasType p scope
-  type_there t e = by (find is_named p.messages) refl (sym called_so ∙ e)
+  type_there t e = by (find (is_named scope) p.messages) refl (sym called_so ∙ e)
     where
-      by : (o : Option MessageType) → find is_named p.messages ≡ o → option_map (λ (m : MessageType). m.full_name) (find is_named p.messages) ≡ Some t → HasType p scope
+      by : (o : Option MessageType) → find (is_named scope) p.messages ≡ o → option_map (λ (m : MessageType). m.full_name) (find (is_named scope) p.messages) ≡ Some t → HasType p scope
       by None none is = absurd (cc (none, is))
-      by (Some m) found is = let r = find_place Named is_named named_tells p.messages m found in (r.0, r.1)
+      by (Some m) found is = found_named scope p m found
 
 module _ (batches : List (List FileContent)) (p : PoolType) (is : IsTyped batches p) (kept : IsKept p) (scope : OptionScope) where
   abbrev facts : View
@@ -73,7 +60,7 @@ module _ (batches : List (List FileContent)) (p : PoolType) (is : IsTyped batche
       ∙ ap (λ n. option_map (λ (m : MessageFacts). n) (message_at facts n)) (no_dot scope)
 
   -- what a pool has a type for its records declare one for
-  pub type_declared : HasType p scope → (m : MessageFacts) × (message_at facts (type_name scope) ≡ Some m)
+  type_declared : HasType p scope → (m : MessageFacts) × (message_at facts (type_name scope) ≡ Some m)
   type_declared has = let r = type_called_so p scope has in by (message_at facts (type_name scope)) refl r.0 (sym seen ∙ r.1)
     where
       by : (o : Option MessageFacts) → message_at facts (type_name scope) ≡ o → (t : Name) → option_map (λ (m : MessageFacts). type_name scope) (message_at facts (type_name scope)) ≡ Some t
@@ -82,7 +69,7 @@ module _ (batches : List (List FileContent)) (p : PoolType) (is : IsTyped batche
       by (Some m) some t is = (m, some)
 
   -- and the other way round
-  pub declared_type : (m : MessageFacts) → message_at facts (type_name scope) ≡ Some m → HasType p scope
+  declared_type : (m : MessageFacts) → message_at facts (type_name scope) ≡ Some m → HasType p scope
   declared_type m e = type_there p scope (type_name scope) (seen ∙ ap (option_map (λ (m : MessageFacts). type_name scope)) e)
 
 -- a message that a view has a greater one has

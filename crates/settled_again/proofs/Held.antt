@@ -27,7 +27,7 @@ use Rattle.settled_again.proofs.Said.{batch_says, entities_say, type_of_scope}
 use Rattle.settled_again.specs.HeldOptions.{AreHeld, HasType, HoldsOptions}
 
 -- a pool whose options were settled has the types that it had
-pub settled_type : (linked new : PoolType) (scope : OptionScope) → IsSettled linked new → HasType linked scope → HasType new scope
+settled_type : (linked new : PoolType) (scope : OptionScope) → IsSettled linked new → HasType linked scope → HasType new scope
 settled_type linked new scope settled has = subst (λ p. HasType p scope) (sym settled) has
 
 module _ (old linked new : PoolType) (typed : List FileDescriptorProto) (faultless : FaultlessFiles old typed linked) (settles : SettlesPool linked (length old.files) new) (settled : IsSettled linked new)

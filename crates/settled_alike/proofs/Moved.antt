@@ -1,5 +1,6 @@
 -- Locations of one content move alike.
 use Rattle.std.proofs.Common.{◌≡◌, ◌⊎◌, ◌<◌, ◌+◌, ◌++◌, ℕ, ℤ, List, [], ◌∷◌, map, drop, take, Option, Some, None, ap, refl, sym, subst, ◌∙◌, inl, inr}
+pub use Rattle.std.proofs.lemmas.Option.{same_Some as some_is}
 use Rattle.std.proofs.lemmas.Bool.{cases_order}
 use Rattle.std.proofs.lemmas.List.{map-append}
 use Rattle.std.specs.Option.{option_map}
@@ -15,9 +16,6 @@ use Rattle.settled_alike.proofs.Changes.{Change, change_of}
 use Rattle.settled_alike.proofs.Told.{head_is, tail_is}
 
 -- ---- a path moves to one path
-pub some_is : {A : Type 0} (x y : A) → Some x ≡ Some y → x ≡ y
-some_is x y e = cc e
-
 one_target : (targets : Targets) (path : List ℤ) (n m : ℕ) (target other : List ℤ) → n ≡ m → targets (take n path) ≡ Some target → targets (take m path) ≡ Some other → target ≡ other
 one_target targets path n m target other same is are = some_is target other (sym is ∙ ap (λ k. targets (take k path)) same ∙ are)
 

@@ -3,7 +3,7 @@ use Rattle.std.proofs.Common.{◌≡◌, ◌⊎◌, ◌≤◌, ◌<◌, ◌+◌,
 use Rattle.std.proofs.lemmas.Bool.{cases_order}
 use Rattle.std.proofs.lemmas.List.{map-append}
 use Rattle.std.proofs.lemmas.List.Sums.{fold-append}
-use Rattle.std.proofs.lemmas.Option.{slice_get-map}
+use Rattle.std.proofs.lemmas.Option.{same_Some, slice_get-map}
 use Rattle.std.specs.List.{AllZip}
 use Rattle.std.specs.Option.{option_map}
 use Rattle.descriptor_records.specs.Content.{FileContent, OptionsContent, file_view, options_view}
@@ -18,7 +18,7 @@ use Rattle.reflect_options.specs.Entities.{Entity, file_entities}
 use Rattle.reflect_options.specs.Settling.{IsScopeOf, Move, SettlesAll, SettlesEntity, SettlesFile, SettlesFiles, SettlesIn, SettlesPool, moves_from, options_path, target_in}
 use Rattle.reflect_tables.specs.Types.{PoolType}
 use Rattle.settled_alike.proofs.Changes.{Change, change_of, changed, edits_elsewhere, edits_there}
-use Rattle.settled_alike.proofs.Moved.{locations_alike, same_locations, some_is}
+use Rattle.settled_alike.proofs.Moved.{locations_alike, same_locations}
 use Rattle.settled_alike.proofs.Placed.{all_elsewhere, file_edits, files_elsewhere}
 use Rattle.settled_alike.proofs.Walk.{same_entities}
 use Rattle.settled_alike.specs.Alike.{AllSettleAlike, IsSameEntity, SettleAlike}
@@ -94,7 +94,7 @@ among pool first (suc n) i es f fs x (front, own, g, before, has, settles, is) f
 
     by : (first + n ≡ i) ⊎ ((first + n < i) ⊎ (i < first + n)) → (i < first + n → Comes pool i f x (fold edited fs front)) → Comes pool i f x (fold edited fs es)
     by (inl same) others =
-        let one : g ≡ f = some_is g f (sym has ∙ ap (slice_get pool.records) same ∙ found) in
+        let one : g ≡ f = same_Some g f (sym has ∙ ap (slice_get pool.records) same ∙ found) in
         let here : SettlesFile pool i f own = subst (λ h. SettlesFile pool i h own) one (subst (λ k. SettlesFile pool k g own) same settles) in
         let last : first + n ≤ i = omega arith in
         let stays = edits_elsewhere i front fs (files_elsewhere pool first n i front last before) in

@@ -112,7 +112,7 @@ mutual
   payload_front levels n value x y p q same h e = absurd (cc)
 
   -- records that are spelled up to an end, where records were written up to one, are alike
-  pub records_front : (levels : ℕ) (body t u : List ℕ) (rs ss : Records) → SpellsRecords levels body ss → Ends t → Stops u → body ++ t ≡ records_bytes rs ++ u → AreAlike rs ss × (t ≡ u)
+  records_front : (levels : ℕ) (body t u : List ℕ) (rs ss : Records) → SpellsRecords levels body ss → Ends t → Stops u → body ++ t ≡ records_bytes rs ++ u → AreAlike rs ss × (t ≡ u)
   records_front levels body t u no_records no_records h ends stops e = (tt, ap (λ b. b ++ t) (sym h) ∙ e)
   records_front levels body t u (more_records n p rs) no_records h ends stops e =
       absurd (ended t (payload_bytes n p ++ (records_bytes rs ++ u)) n p ends (ap (λ b. b ++ t) (sym h) ∙ e ∙ written (key_bytes (key_of n (wire_of p))) (payload_bytes n p) (records_bytes rs) u))

@@ -54,13 +54,6 @@ none_plain v e = absurd (cc e)
 -- the single value of a value, by one word and by another
 one_value : (v : Value) → single_of v ≡ option_map single_view (singles.single v)
 one_value (held.Bool b) = search (rules, the_lemmas)
-one_value (held.I32 z) = search (rules, the_lemmas)
-one_value (held.I64 z) = search (rules, the_lemmas)
-one_value (held.U32 n) = search (rules, the_lemmas)
-one_value (held.U64 n) = search (rules, the_lemmas)
-one_value (held.String t) = search (rules, the_lemmas)
-one_value (held.Bytes b) = search (rules, the_lemmas)
-one_value (held.EnumNumber z) = search (rules, the_lemmas)
 one_value v = search (rules, the_lemmas)
 
 pub some_plain : (v : Value) (w : scalars.Single) → singles.single v ≡ Some w → IsPlain (Some v)

@@ -6,3 +6,4 @@ pub mod Kept
 pub mod Truths
 pub mod Stored
 pub mod Said
+pub mod ScopeTypes

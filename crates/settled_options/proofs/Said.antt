@@ -61,7 +61,7 @@ module _ (d : MessageDescriptor) (sound : IsSound d.pool.now) (bytes : List ℕ)
 
   module _ (levels : ℕ) (ss : Records) (spells : SpellsRecords levels (message_bytes whole) ss) where
     -- no field has the number of the list
-    pub no_list : values_at 999 (fields_in ss) ≡ []
+    no_list : values_at 999 (fields_in ss) ≡ []
     no_list =
         let held = listed_whole d.pool.now lists.0 lists.2 in
         let writes : Writes 999 [] (message_bytes whole) = message_under whole 999 [] unset.field.ascending (whole_none 999 lists.0 lists.1 held) (whole_lacks 999 lists.0 lists.1 held)
@@ -69,7 +69,7 @@ module _ (d : MessageDescriptor) (sound : IsSound d.pool.now) (bytes : List ℕ)
         none_read levels 999 (message_bytes whole) ss writes spells
 
     -- what is read under the number of a truth value is what the message says
-    pub one_truth : (n : ℕ) (name : List ℕ) → HasField d.pool.now d.index n (IsTruthValue name) → IsLast IsBool (values_at n (fields_in ss)) (truth_said n whole)
+    one_truth : (n : ℕ) (name : List ℕ) → HasField d.pool.now d.index n (IsTruthValue name) → IsLast IsBool (values_at n (fields_in ss)) (truth_said n whole)
     one_truth n name (g, is, truth) =
         let held = truth_whole d.pool.now g truth.truth in
         let plain : PlainAt n whole = unset_field n set whole 999 unset (all_kept d sound n g is truth.truth truth.presence s os stored set paths sets there
@@ -114,14 +114,7 @@ says scope whole fs truth bytes o is none =
 
 pub no_dot : (scope : OptionScope) → without_dot (type_name scope) ≡ type_name scope
 no_dot scopes.File = refl
-no_dot scopes.Message = refl
-no_dot scopes.Field = refl
-no_dot scopes.Oneof = refl
-no_dot scopes.Enum = refl
-no_dot scopes.EnumValue = refl
-no_dot scopes.Service = refl
-no_dot scopes.Method = refl
-no_dot scopes.ExtensionRange = refl
+no_dot scope = refl
 
 module _ (scope : OptionScope) (s : NameScope) (o : Options) (settled : OptionsContent) (paths : List (List ℤ)) (sound : IsSound s.pool.now) (can : CanRead s.pool.now scope) (is : Settles scope s o settled paths) where
   abbrev type : MessageDescriptor

@@ -3,7 +3,7 @@ use Rattle.std.proofs.Common.{◌≡◌, ◌≢◌, ℕ, zero, suc, ◌<◌, ◌
 use Rattle.std.specs.List.{AllByRecursion, filter, flat_map}
 use Rattle.reflect_tables.specs.Types.{PoolType}
 use Rattle.reflect_wire.specs.Encoding.{records_bytes}
-use Rattle.reflect_wire.specs.Records.{Payload, varint, fixed64, delimited, group, fixed32, Records, no_records, more_records, SpellsRecords}
+use Rattle.reflect_wire.specs.Records.{Payload, varint, Records, no_records, more_records, SpellsRecords}
 use Rattle.reflect_wire.specs.Views.{records_of}
 use Rattle.reflect_codec.specs.Reading.{Field, Value, fields_in, number, value_of, values_at}
 use Rattle.reflect_decode.specs.Keeps.{payloads}
@@ -126,10 +126,7 @@ AreSaid _ _ = ⊥
 
 one_said : (p q : Payload) → Alike p q → Said p (value_of q)
 one_said (varint v) q h = ap value_of h
-one_said (fixed64 v) q h = tt
-one_said (delimited v) q h = tt
-one_said (group v) q h = tt
-one_said (fixed32 v) q h = tt
+one_said p q h = tt
 
 all_said : (n : ℕ) (rs : List (ℕ × Payload)) (ss : Records) → AreAlike (records_of rs) ss → AreSaid (payloads n rs) (values_at n (fields_in ss))
 all_said n [] no_records h = tt

@@ -163,7 +163,7 @@ known_number pool i n g e = by (numbered_field pool i n) refl e where
   by (Some f) is e = held_number pool f g e ∙ found_number n (type_at pool i).fields f is
 
 -- so has an extension
-pub extension_number : (pool : PoolType) (i n : ℕ) (g : FieldType) → known_extension pool i n ≡ Some g → g.number ≡ n
+extension_number : (pool : PoolType) (i n : ℕ) (g : FieldType) → known_extension pool i n ≡ Some g → g.number ≡ n
 extension_number pool i n g e = by (find (λ x. (x.extendee == i) && (x.field.number == n)) pool.extensions) refl e where
   by : (o : Option ExtensionType) → find (λ x. (x.extendee == i) && (x.field.number == n)) pool.extensions ≡ o → option_and_then (λ x. if_held pool x.field) o ≡ Some g → g.number ≡ n
   by None is e = absurd (cc e)

@@ -1,6 +1,6 @@
 -- Options that say what their bytes do are one where the bytes are.
-use Rattle.std.proofs.Common.{◌≡◌, ◌==◌, not, Bool, true, false, List, Option, sym, ap, ◌∙◌, subst}
-use Rattle.descriptor_records.specs.Content.{OptionsContent}
+use Rattle.std.proofs.Common.{◌≡◌, ◌==◌, ℕ, not, Bool, true, false, List, Option, sym, ap, ◌∙◌, subst}
+use Rattle.descriptor_records.specs.Content.{OptionsContent, options_view}
 use Rattle.plain_records.specs.SaidOptions.{SaysItsBytes}
 use Rattle.reflect_codec.specs.Meaning.{is_enum, is_field, is_message}
 use Rattle.reflect_codec.specs.Reading.{IsBool, IsLast, IsLastIf, SpellsFields, Value, eight_bytes, last, number, other, payload, values_at}
@@ -25,26 +25,24 @@ module _ (scope : OptionScope) (a b : OptionsContent) (says : SaysItsBytes scope
   one_reading : says.fields ≡ also.fields
   one_reading = one_fields 100 b.encoded says.fields also.fields (subst (λ bytes. SpellsFields 100 bytes says.fields) same says.spelled) also.spelled
 
+  -- what the fields under a number say, if it is read, is one
+  one_said : (get : OptionsContent → Option Bool) (read : Bool) (n : ℕ)
+      → IsLastIf read IsBool (values_at n says.fields) (get (options_view says.options))
+      → IsLastIf read IsBool (values_at n also.fields) (get (options_view also.options)) → get a ≡ get b
+  one_said get read n h k =
+      sym (ap get says.is)
+      ∙ one_if read (values_at n also.fields) (get (options_view says.options)) (get (options_view also.options))
+      (subst (λ fs. IsLastIf read IsBool (values_at n fs) (get (options_view says.options))) one_reading h) k
+      ∙ ap get also.is
+
   packed : a.packed ≡ b.packed
-  packed =
-      sym (ap (λ (c : OptionsContent). c.packed) says.is)
-      ∙ one_if (is_field (kind_of scope)) (values_at 2 also.fields) says.options.packed also.options.packed
-      (subst (λ fs. IsLastIf (is_field (kind_of scope)) IsBool (values_at 2 fs) says.options.packed) one_reading says.said.packed) also.said.packed
-      ∙ ap (λ (c : OptionsContent). c.packed) also.is
+  packed = one_said (λ c. c.packed) (is_field (kind_of scope)) 2 says.said.packed also.said.packed
 
   allow_alias : a.allow_alias ≡ b.allow_alias
-  allow_alias =
-      sym (ap (λ (c : OptionsContent). c.allow_alias) says.is)
-      ∙ one_if (is_enum (kind_of scope)) (values_at 2 also.fields) says.options.allow_alias also.options.allow_alias
-      (subst (λ fs. IsLastIf (is_enum (kind_of scope)) IsBool (values_at 2 fs) says.options.allow_alias) one_reading says.said.allow_alias) also.said.allow_alias
-      ∙ ap (λ (c : OptionsContent). c.allow_alias) also.is
+  allow_alias = one_said (λ c. c.allow_alias) (is_enum (kind_of scope)) 2 says.said.allow_alias also.said.allow_alias
 
   map_entry : a.map_entry ≡ b.map_entry
-  map_entry =
-      sym (ap (λ (c : OptionsContent). c.map_entry) says.is)
-      ∙ one_if (is_message (kind_of scope)) (values_at 7 also.fields) says.options.map_entry also.options.map_entry
-      (subst (λ fs. IsLastIf (is_message (kind_of scope)) IsBool (values_at 7 fs) says.options.map_entry) one_reading says.said.map_entry) also.said.map_entry
-      ∙ ap (λ (c : OptionsContent). c.map_entry) also.is
+  map_entry = one_said (λ c. c.map_entry) (is_message (kind_of scope)) 7 says.said.map_entry also.said.map_entry
 
   pub one_record : a.uninterpreted_option ≡ b.uninterpreted_option → a ≡ b
   one_record left = λ i. record { encoded = same i; packed = packed i; allow_alias = allow_alias i; map_entry = map_entry i; uninterpreted_option = left i }

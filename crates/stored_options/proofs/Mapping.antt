@@ -1,6 +1,7 @@
 -- A fine message into a map of which a fine entry is put is fine still.
-use Rattle.std.proofs.Common.{◌≡◌, ℕ, suc, Bool, true, false, cond, List, [], ◌∷◌, Option, None, Some, refl, sym, ap, ◌∙◌, subst}
+use Rattle.std.proofs.Common.{◌≡◌, ℕ, suc, true, false, cond, List, [], ◌∷◌, Option, None, Some, refl, sym, ap, ◌∙◌, subst}
 use Rattle.std.specs.List.{AllByRecursion}
+use Rattle.growing_texts.proofs.Given.{value_known}
 use Rattle.growing_texts.proofs.Known.{add_all_known}
 use Rattle.known_messages.specs.KnownMessages.{KnowsAll, KnowsContent, KnowsHeld}
 use Rattle.message_view.specs.Shaped.{Exclusive, FitsAs, FitsShaped}
@@ -14,9 +15,9 @@ use Rattle.message_view.proofs.Seen.{message_seen}
 use Rattle.message_view.proofs.Sound.{found_at}
 use Rattle.protobuf_model.specs.Scalars.{Suits}
 use Rattle.protobuf_model.specs.Typed.{HasDefault, HasDefaults, IsTyped, IsTypedBy}
-use Rattle.protobuf_model.specs.Types.{Field, Key, Kind, Name, Part, Scalar, Types, keyed, nested, scalar}
+use Rattle.protobuf_model.specs.Types.{Field, Key, Name, Part, Scalar, Types, keyed}
 use Rattle.protobuf_model.specs.Types as kinds
-use Rattle.protobuf_model.specs.Values.{Held, Message, Single, blob, content, enumerated, int32, int64, message, records, text, truth, uint32, uint64}
+use Rattle.protobuf_model.specs.Values.{Message, Single, blob, enumerated, int32, int64, message, text, truth, uint32, uint64}
 use Rattle.protobuf_model.proofs.Merging.{nothing_typed}
 use Rattle.protox_lex.specs.Class.{Text}
 use Rattle.reflect_extend.specs.Gives.{Entry}
@@ -43,7 +44,7 @@ use Rattle.text_laws.proofs.Assigned.{field}
 use Rattle.text_laws.proofs.EntriesSuit.{entry_right}
 use Rattle.text_laws.proofs.FieldsSuit.{IsAdded, add_all_keeps}
 use Rattle.text_model.specs.Schemas.{HoldsOne, key_part}
-use Rattle.text_model.specs.Value.{add_all, default_of, entry_of, value_of}
+use Rattle.text_model.specs.Value.{add_all, entry_of}
 use Rattle.text_view.specs.Holds.{HasForm, HaveKeys, HoldsKinds}
 use Rattle.text_view.specs.Names.{kind_name, names_of}
 use Rattle.text_view.specs.Targets.{target_field}
@@ -86,15 +87,7 @@ keys_formed : (pool : PoolType) (f : FieldType) (es : List Entry) → AllByRecur
 keys_formed pool f [] h = tt
 keys_formed pool f (e ∷ es) h = (form_suits (views.scalar_of (entry_part pool f 1).kind) (views.single_view (key_view e.0)) h.0, keys_formed pool f es h.1)
 
--- ---- the value of an entry
-
-value_known : (types : Types) (part : Part) (o : Option ℕ) (e : Bool) (h : Held) → KnowsHeld types (Some (field part kinds.one o e)) h
-    → KnowsContent types part.kind (value_of part h)
-value_known types part o e (content c) k = k
-value_known types part o e (records ps) k = by part.kind where
-  by : (k : Kind) → KnowsContent types k (default_of part k)
-  by (scalar k) = tt
-  by (nested frame u) = λ n. refl
+-- ---- the map
 
 module _ (levels : ℕ) (old : DynamicMessage) (sound : IsSound old.descriptor.pool.now) (fine : IsFine (suc levels) old) (new : DynamicMessage)
     (type : new.descriptor ≡ old.descriptor) (t : Target) (owns : OwnsTarget old.descriptor t)

@@ -60,13 +60,7 @@ use Rattle.stored_options.proofs.Scoped.{holds_one, truth_known}
 -- the truth value of a single value
 truth_alone : (w : held.Single) (b : Bool) → single_view w ≡ model.truth b → cases.truth_of w ≡ Some b
 truth_alone (held.truth a) b e = ap (λ (x : Single). elim x [ model.truth c ↦ Some c | _ ↦ Some a ]) e
-truth_alone (held.int32 z) b e = absurd (cc e)
-truth_alone (held.int64 z) b e = absurd (cc e)
-truth_alone (held.uint32 n) b e = absurd (cc e)
-truth_alone (held.uint64 n) b e = absurd (cc e)
-truth_alone (held.text t) b e = absurd (cc e)
-truth_alone (held.blob t) b e = absurd (cc e)
-truth_alone (held.enumerated z) b e = absurd (cc e)
+truth_alone w b e = absurd (cc e)
 
 -- what a value is, as a truth value
 abbrev pub truth_at : ℕ → DynamicMessage → Option Bool

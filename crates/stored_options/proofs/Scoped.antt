@@ -6,7 +6,6 @@ use Rattle.std.specs.Prelude.{codes}
 use Rattle.reflect_tables.specs.Finding.{IsFirst}
 use Rattle.reflect_tables.specs.Types.{FieldType, PoolType, no_type}
 use Rattle.reflect_entries.specs.Members.{first_number}
-use Rattle.reflect_pool.specs.Dots.{without_dot}
 use Rattle.reflect_pool.specs.Parts.{members_of}
 use Rattle.reflect_pool.specs.Shapes.{holds_map, is_entry, is_repeated}
 use Rattle.reflect_pool.specs.declared.message.MessageDescriptor.{MessageDescriptor}
@@ -23,18 +22,8 @@ use Rattle.message_view.specs.Types.{either_field, entry_part, field_at, field_o
 use Rattle.message_view.proofs.Sound.{named}
 use Rattle.known_messages.specs.KnownMessages.{AreFormOf}
 use Rattle.settled_options.proofs.Fields.{truth_whole}
+use Rattle.settled_options.proofs.Said.{no_dot}
 use Rattle.stored_options.proofs.EntryMessage.{entry_formed, entry_message}
-
-no_dot : (scope : OptionScope) → without_dot (type_name scope) ≡ type_name scope
-no_dot scopes.File = refl
-no_dot scopes.Message = refl
-no_dot scopes.Field = refl
-no_dot scopes.Oneof = refl
-no_dot scopes.Enum = refl
-no_dot scopes.EnumValue = refl
-no_dot scopes.Service = refl
-no_dot scopes.Method = refl
-no_dot scopes.ExtensionRange = refl
 
 -- ---- a type of the scope's name
 
@@ -54,7 +43,7 @@ module _ (scope : OptionScope) (s : NameScope) (d : MessageDescriptor) (is : IsT
   pub option_type : CanRead s.pool.now scope → IsOptionType d.pool.now scope d.index
   option_type can = subst (λ p. IsOptionType p scope d.index) (sym is.0) (can d.index named_type)
 
-  pub its_name : name_at d.pool.now d.index ≡ type_name scope
+  its_name : name_at d.pool.now d.index ≡ type_name scope
   its_name = ap (λ p. name_at p d.index) is.0 ∙ named_type.1.0 no_type
 
   -- what is told of the type by its name is told of the descriptor's

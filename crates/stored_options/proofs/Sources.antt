@@ -136,7 +136,7 @@ module _ (scope : OptionScope) (s : NameScope) (o settled : Options) (paths : Li
   lists = (option_type scope s stored.descriptor type can).uninterpreted
 
   -- nothing is stored at first
-  pub stored_fine : o.encoded.items ≡ [] → IsFine top stored
+  stored_fine : o.encoded.items ≡ [] → IsFine top stored
   stored_fine empty =
       let its_types = types_of stored.descriptor.pool.now in
       let name = name_at stored.descriptor.pool.now stored.descriptor.index in
@@ -183,7 +183,7 @@ module _ (scope : OptionScope) (s : NameScope) (o settled : Options) (paths : Li
     bytes = ap (λ (c : OptionsContent). c.encoded) is.1.4.0
 
     -- what is written is stored as that message
-    pub whole_stored : AreStored (types_of s.pool.now) scope (view whole) settled.encoded.items
+    whole_stored : AreStored (types_of s.pool.now) scope (view whole) settled.encoded.items
     whole_stored =
         let form = fine_formed whole whole_sound whole_fine (subst AreBytes bytes are) (subst (λ bytes. length bytes < 2 ^ 64) bytes (short settled.encoded)) is.1.4.1.0 is.1.4.1.1 in (
           of_name scope s whole.descriptor whole_type (λ types t. AreFormOf types t (view whole) settled.encoded.items)

@@ -8,7 +8,7 @@ use Rattle.std.proofs.lemmas.Slice.Eq.{bytes_eq-Decides}
 use Rattle.descriptor_records.specs.Content.{Text, FieldContent, FileContent, file_view}
 use Rattle.protobuf_model.specs.Types.{Name}
 use Rattle.reflect_tables.specs.Types.{ExtensionType, FieldType, MessageType, PoolType}
-use Rattle.schema_view.specs.Declarations.{Body, Declaration, FieldFacts, declarations, facts_of, of_message, of_field, of_oneof, of_enum, of_value, of_service, of_method, of_extension}
+use Rattle.schema_view.specs.Declarations.{Body, Declaration, FieldFacts, declarations, facts_of, of_extension}
 use Rattle.schema_view.specs.Fields.{is_group}
 use Rattle.schema_view.specs.Files.{text_of}
 use Rattle.schema_view.specs.Lawful.{is_dotted}
@@ -201,13 +201,7 @@ module _ (p : PoolType) (l : AreLinked (map file_view p.records)) (tells : Tells
 
   extension_body : (b : Body) (c : FieldContent) → extension_in b ≡ Some c → b ≡ of_extension c
   extension_body (of_extension x) c e = ap of_extension (cc e)
-  extension_body (of_message m) c e = absurd (cc e)
-  extension_body (of_field f) c e = absurd (cc e)
-  extension_body (of_oneof o) c e = absurd (cc e)
-  extension_body (of_enum m) c e = absurd (cc e)
-  extension_body (of_value v) c e = absurd (cc e)
-  extension_body (of_service s) c e = absurd (cc e)
-  extension_body (of_method m) c e = absurd (cc e)
+  extension_body b c e = absurd (cc e)
 
   has_entry : (s w : Text) (c : FieldContent) → option_and_then extension_in (body_at V w) ≡ Some c
       → is_dotted s c.extendee ≡ true → HasEntry s w

@@ -1,5 +1,6 @@
 -- What the type of a field is, by its record and by its entry.
 use Rattle.std.proofs.Common.{◌≡◌, ◌∙◌, ℕ, ℤ, pos, Bool, true, false, cond, List, [], ◌∷◌, Option, Some, None, bytes_eq, map, slice_get, ap, sym, subst, refl}
+use Rattle.std.proofs.lemmas.Option.{same_Some}
 use Rattle.std.specs.List.{find}
 use Rattle.std.specs.Option.{option_and_then, option_map}
 use Rattle.std.specs.Ordering.{int_eq}
@@ -17,7 +18,7 @@ use Rattle.schema_view.specs.Declarations.{of_enum, of_message}
 use Rattle.schema_view.specs.Files.{text_of}
 use Rattle.schema_view.specs.Rules.{is_number}
 use Rattle.schema_view.specs.Scalars as view
-use Rattle.schema_view.specs.Types.{body_at, message_in, number_in, type_at, type_name, undotted, value_number, values_of}
+use Rattle.schema_view.specs.Types.{body_at, message_in, type_at, type_name, undotted, value_number, values_of}
 use Rattle.schema_view.specs.Views.{View, or_else, view_of, when}
 use Rattle.schema_view.proofs.Road.{AreLinked}
 use Rattle.linked_view.specs.Valued.{NumberedValue, TellsValues, numbered_value}
@@ -26,7 +27,7 @@ use Rattle.text_view.specs.Names as pool
 use Rattle.text_view.specs.Schemas.{is_bytes, is_string}
 use Rattle.types_view.specs.Fields.{HoldsKind, HoldsScalar, TellsFields}
 use Rattle.types_view.proofs.Held.{own}
-use Rattle.types_view.proofs.KindNumbers.{Sorted, a_message, a_scalar, an_enum, each_scalar, some_kind, sorted}
+use Rattle.types_view.proofs.KindNumbers.{Sorted, a_message, a_scalar, an_enum, each_scalar, sorted}
 use Rattle.types_view.proofs.Told.{EnumTold, enum_at, enum_told, message_at, type_is}
 use Rattle.texts_view.specs.Named.{is_type_called, message_name, message_of, name_of_value}
 
@@ -36,26 +37,26 @@ abbrev pub is_enum : KindType → Bool
 is_enum (types.enumeration i) = true
 is_enum _ = false
 
-pub called_none : (p : PoolType) (w : Text) (k : KindType) → is_message k ≡ false
+called_none : (p : PoolType) (w : Text) (k : KindType) → is_message k ≡ false
     → pool.is_type_called p w k ≡ false
 called_none p w (types.message i) e = absurd (cc e)
 called_none p w k e = refl
 
-pub label_none : (p : PoolType) (other : Text) (k : KindType) → is_message k ≡ false
+label_none : (p : PoolType) (other : Text) (k : KindType) → is_message k ≡ false
     → print.type_name p k other ≡ other
 label_none p other (types.message i) e = absurd (cc e)
 label_none p other k e = refl
 
-pub name_none : (p : PoolType) (k : KindType) → is_message k ≡ false → pool.kind_name p k ≡ []
+name_none : (p : PoolType) (k : KindType) → is_message k ≡ false → pool.kind_name p k ≡ []
 name_none p (types.message i) e = absurd (cc e)
 name_none p k e = refl
 
-pub number_none : (p : PoolType) (w : Text) (k : KindType) → is_enum k ≡ false
+number_none : (p : PoolType) (w : Text) (k : KindType) → is_enum k ≡ false
     → pool.number_in p k w ≡ None
 number_none p w (types.enumeration i) e = absurd (cc e)
 number_none p w k e = refl
 
-pub value_none : (p : PoolType) (z : ℤ) (k : KindType) → is_enum k ≡ false
+value_none : (p : PoolType) (z : ℤ) (k : KindType) → is_enum k ≡ false
     → pool.name_in p k z ≡ None
 value_none p z (types.enumeration i) e = absurd (cc e)
 value_none p z k e = refl
@@ -66,7 +67,7 @@ string_number numbers.Group k e = absurd (cc e)
 string_number numbers.Message k e = absurd (cc e)
 string_number numbers.Enum k e = absurd (cc e)
 string_number t k e =
-    subst (λ j. is_string j ≡ is_number (pos 9) (Some (type_number t))) (some_kind _ k e) refl
+    subst (λ j. is_string j ≡ is_number (pos 9) (Some (type_number t))) (same_Some _ k e) refl
 
 bytes_number : (t : TypeNumber) (k : KindType) → scalar_type t ≡ Some k
     → is_bytes k ≡ is_number (pos 12) (Some (type_number t))
@@ -74,64 +75,57 @@ bytes_number numbers.Group k e = absurd (cc e)
 bytes_number numbers.Message k e = absurd (cc e)
 bytes_number numbers.Enum k e = absurd (cc e)
 bytes_number t k e =
-    subst (λ j. is_bytes j ≡ is_number (pos 12) (Some (type_number t))) (some_kind _ k e) refl
+    subst (λ j. is_bytes j ≡ is_number (pos 12) (Some (type_number t))) (same_Some _ k e) refl
 
 -- ---- values of enums
 
 abbrev numbered : ValueType → NumberedValue
 numbered v = (v.name, v.number)
 
-pub number_found : (w : Text) (vs : List EnumValueContent) (xs : List ValueType)
+-- what the first value that passes a test gives is one by the records and by the entries
+first_found : {X : Type 0} (test : NumberedValue → Bool) (give : NumberedValue → X)
+    (said : List EnumValueContent → Option X) → said [] ≡ None
+    → ((v : EnumValueContent) (vs : List EnumValueContent) → said (v ∷ vs)
+    ≡ or_else (when (test (numbered_value v)) (give (numbered_value v))) (said vs))
+    → (vs : List EnumValueContent) (xs : List ValueType) → map numbered_value vs ≡ map numbered xs
+    → option_map (λ (x : ValueType). give (numbered x))
+    (find (λ (x : ValueType). test (numbered x)) xs) ≡ said vs
+first_found test give said none one [] [] e = sym none
+first_found test give said none one [] (x ∷ xs) e = absurd (cc e)
+first_found test give said none one (v ∷ vs) [] e = absurd (cc e)
+first_found {X} test give said none one (v ∷ vs) (x ∷ xs) e =
+    ap (λ b. found (cond b (Some x) (find (λ (y : ValueType). test (numbered y)) xs)))
+    (sym (ap test same))
+    ∙ by (test (numbered_value v)) (first_found test give said none one vs xs rest)
+    ∙ sym (one v vs) where
+      found : Option ValueType → Option X
+      found = option_map (λ (y : ValueType). give (numbered y))
+
+      same : numbered_value v ≡ numbered x
+      same = cc e
+
+      rest : map numbered_value vs ≡ map numbered xs
+      rest = cc e
+
+      by : (b : Bool) → found (find (λ (y : ValueType). test (numbered y)) xs) ≡ said vs
+          → found (cond b (Some x) (find (λ (y : ValueType). test (numbered y)) xs))
+          ≡ or_else (when b (give (numbered_value v))) (said vs)
+      by true h = ap Some (sym (ap give same))
+      by false h = h
+
+number_found : (w : Text) (vs : List EnumValueContent) (xs : List ValueType)
     → map numbered_value vs ≡ map numbered xs
     → option_map (λ (x : ValueType). x.number) (find (λ (x : ValueType). bytes_eq x.name w) xs)
     ≡ value_number w vs
-number_found w [] [] e = refl
-number_found w [] (x ∷ xs) e = absurd (cc e)
-number_found w (v ∷ vs) [] e = absurd (cc e)
-number_found w (v ∷ vs) (x ∷ xs) e =
-    ap (λ b. found (cond b (Some x) (find (λ (y : ValueType). bytes_eq y.name w) xs)))
-    (sym (ap (λ (n : NumberedValue). bytes_eq n.0 w) same))
-    ∙ by (bytes_eq (text_of v.name) w) (number_found w vs xs rest) where
-      found : Option ValueType → Option ℤ
-      found = option_map (λ (y : ValueType). y.number)
+number_found w = first_found (λ (n : NumberedValue). bytes_eq n.0 w) (λ (n : NumberedValue). n.1)
+    (value_number w) refl (λ v vs. refl)
 
-      same : numbered_value v ≡ numbered x
-      same = cc e
-
-      rest : map numbered_value vs ≡ map numbered xs
-      rest = cc e
-
-      by : (b : Bool) → found (find (λ (y : ValueType). bytes_eq y.name w) xs) ≡ value_number w vs
-          → found (cond b (Some x) (find (λ (y : ValueType). bytes_eq y.name w) xs))
-          ≡ or_else (when b (number_in v)) (value_number w vs)
-      by true h = ap Some (sym (ap (λ (n : NumberedValue). n.1) same))
-      by false h = h
-
-pub name_found : (z : ℤ) (vs : List EnumValueContent) (xs : List ValueType)
+name_found : (z : ℤ) (vs : List EnumValueContent) (xs : List ValueType)
     → map numbered_value vs ≡ map numbered xs
     → option_map (λ (x : ValueType). x.name) (find (λ (x : ValueType). int_eq x.number z) xs)
     ≡ name_of_value z vs
-name_found z [] [] e = refl
-name_found z [] (x ∷ xs) e = absurd (cc e)
-name_found z (v ∷ vs) [] e = absurd (cc e)
-name_found z (v ∷ vs) (x ∷ xs) e =
-    ap (λ b. found (cond b (Some x) (find (λ (y : ValueType). int_eq y.number z) xs)))
-    (sym (ap (λ (n : NumberedValue). int_eq n.1 z) same))
-    ∙ by (int_eq (number_in v) z) (name_found z vs xs rest) where
-      found : Option ValueType → Option Text
-      found = option_map (λ (y : ValueType). y.name)
-
-      same : numbered_value v ≡ numbered x
-      same = cc e
-
-      rest : map numbered_value vs ≡ map numbered xs
-      rest = cc e
-
-      by : (b : Bool) → found (find (λ (y : ValueType). int_eq y.number z) xs) ≡ name_of_value z vs
-          → found (cond b (Some x) (find (λ (y : ValueType). int_eq y.number z) xs))
-          ≡ or_else (when b (text_of v.name)) (name_of_value z vs)
-      by true h = ap Some (sym (ap (λ (n : NumberedValue). n.0) same))
-      by false h = h
+name_found z = first_found (λ (n : NumberedValue). int_eq n.1 z) (λ (n : NumberedValue). n.0)
+    (name_of_value z) refl (λ v vs. refl)
 
 -- ---- of a pool
 

@@ -171,7 +171,7 @@ module _ (p : PoolType) (l : AreLinked (map file_view p.records)) (tells : Tells
 
   -- ---- each name
 
-  pub names_same : (t : Name) → names_in V t ≡ pool.names_of p (place_in p.messages t)
+  names_same : (t : Name) → names_in V t ≡ pool.names_of p (place_in p.messages t)
   names_same t = by (stands p.messages t) where
     by : StandsAt p.messages t ⊎ StandsNowhere p.messages t
         → names_in V t ≡ pool.names_of p (place_in p.messages t)

@@ -5,7 +5,7 @@ use Rattle.descriptor_records.specs.Content.{Text, EnumValueContent, FieldConten
 use Rattle.protobuf_model.specs.Types.{Name}
 use Rattle.reflect_print.specs.Named as print
 use Rattle.reflect_tables.specs.Names.{enums, messages, names_of}
-use Rattle.reflect_tables.specs.Types.{FieldType, PoolType}
+use Rattle.reflect_tables.specs.Types.{FieldType, KindType, PoolType}
 use Rattle.schema_view.specs.Fields.{is_repeated}
 use Rattle.schema_view.specs.Files.{text_of}
 use Rattle.schema_view.specs.Types.{field_at, name_of_field, names_entry, type_at, type_name, value_number, values_of}
@@ -166,43 +166,39 @@ module _ (p : PoolType) (l : AreLinked (map file_view p.records)) (tells : Tells
     content_is e is k =
         record_same ∙ ap (λ o. option_and_then (field_at V) (option_map full o)) is ∙ k.1.at
 
-    pub number_same : (w : Text) → value_number w (enum_values V t n)
-        ≡ option_and_then (λ k. pool.number_in p k w) (pool.kind_at p i n)
-    number_same w = by either refl where
-      by : (o : Option FieldType) → either ≡ o → value_number w (enum_values V t n)
-          ≡ option_and_then (λ k. pool.number_in p k w) (pool.kind_at p i n)
+    -- what is told of the values that a record has is told of the kind that stands there
+    told_same : {X : Type 0} (said : List EnumValueContent → Option X) (of : KindType → Option X)
+        → said [] ≡ None
+        → ((c : FieldContent) (k : KindType) → kinds.IsOf p l tells values c k
+        → said (values_of (type_at V c)) ≡ of k)
+        → said (enum_values V t n) ≡ option_and_then of (pool.kind_at p i n)
+    told_same said of none same = by either refl where
+      by : (o : Option FieldType) → either ≡ o
+          → said (enum_values V t n) ≡ option_and_then of (pool.kind_at p i n)
       by None is =
-          ap (λ o. value_number w (valued o))
+          ap (λ o. said (valued o))
           (record_same ∙ ap (λ o. option_and_then (field_at V) (option_map full o)) is)
-          ∙ sym (ap (option_and_then (λ k. pool.number_in p k w))
+          ∙ none
+          ∙ sym (ap (option_and_then of)
           (kind_same ∙ ap (option_map (λ e. (types.values_of p e).kind)) is))
       by (Some e) is =
           let k = known_either e is in
           let v = values_are k.0 e k.1 in
-          ap (λ o. value_number w (valued o)) (content_is e is k)
-          ∙ ap (value_number w) (values_is e k)
-          ∙ kinds.number_same p l tells values v.content w (types.values_of p e).kind v.kind
-          ∙ sym (ap (option_and_then (λ k. pool.number_in p k w))
+          ap (λ o. said (valued o)) (content_is e is k)
+          ∙ ap said (values_is e k)
+          ∙ same v.content (types.values_of p e).kind v.kind
+          ∙ sym (ap (option_and_then of)
           (kind_same ∙ ap (option_map (λ e. (types.values_of p e).kind)) is))
+
+    pub number_same : (w : Text) → value_number w (enum_values V t n)
+        ≡ option_and_then (λ k. pool.number_in p k w) (pool.kind_at p i n)
+    number_same w = told_same (value_number w) (λ k. pool.number_in p k w) refl
+        (λ c. kinds.number_same p l tells values c w)
 
     pub value_same : (z : ℤ) → name_of_value z (enum_values V t n)
         ≡ option_and_then (λ k. pool.name_in p k z) (pool.kind_at p i n)
-    value_same z = by either refl where
-      by : (o : Option FieldType) → either ≡ o → name_of_value z (enum_values V t n)
-          ≡ option_and_then (λ k. pool.name_in p k z) (pool.kind_at p i n)
-      by None is =
-          ap (λ o. name_of_value z (valued o))
-          (record_same ∙ ap (λ o. option_and_then (field_at V) (option_map full o)) is)
-          ∙ sym (ap (option_and_then (λ k. pool.name_in p k z))
-          (kind_same ∙ ap (option_map (λ e. (types.values_of p e).kind)) is))
-      by (Some e) is =
-          let k = known_either e is in
-          let v = values_are k.0 e k.1 in
-          ap (λ o. name_of_value z (valued o)) (content_is e is k)
-          ∙ ap (name_of_value z) (values_is e k)
-          ∙ kinds.value_same p l tells values v.content z (types.values_of p e).kind v.kind
-          ∙ sym (ap (option_and_then (λ k. pool.name_in p k z))
-          (kind_same ∙ ap (option_map (λ e. (types.values_of p e).kind)) is))
+    value_same z = told_same (name_of_value z) (λ k. pool.name_in p k z) refl
+        (λ c. kinds.value_same p l tells values c z)
 
     -- ---- the types of maps' entries
 

@@ -1,5 +1,6 @@
 -- Pools of the same records keep the same numbers for extensions, by names of messages.
-use Rattle.std.proofs.Common.{◌≡◌, ℕ, List, [], ◌∷◌, map, Some, refl, sym, ap, ◌∙◌, subst}
+use Rattle.std.proofs.Common.{◌≡◌, ℕ, List, [], ◌∷◌, map, refl, sym, ap, ◌∙◌, subst}
+use Rattle.std.proofs.lemmas.Option.{same_Some}
 use Rattle.std.specs.List.{list_any}
 use Rattle.descriptor_records.specs.Content.{Text, FileContent, extension_range_view, file_view}
 use Rattle.descriptor_records.specs.declared.file.FileDescriptorProto.{FileDescriptorProto}
@@ -42,16 +43,13 @@ custom_by r s same =
     ap (list_any is_custom) (sym (bounds (out-DescriptorProto r).extension_range.items)
     ∙ ap (map bounds_of) same ∙ bounds (out-DescriptorProto s).extension_range.items)
 
-some_same : {X : Type 0} (x y : X) → Some x ≡ Some y → x ≡ y
-some_same x y e = cc e
-
 -- a message has one record
 one_record : (p : PoolType) (i : ℕ) (r s : DescriptorProto) → IsMessageOf p i r → IsMessageOf p i s
     → r ≡ s
 one_record p i r s a b =
     let files : a.0.of_file ≡ b.0.of_file =
-    some_same a.0.of_file b.0.of_file (sym a.0.there ∙ b.0.there) in
-    let owns : a.0.own ≡ b.0.own = some_same a.0.own b.0.own (sym a.0.at
+    same_Some a.0.of_file b.0.of_file (sym a.0.there ∙ b.0.there) in
+    let owns : a.0.own ≡ b.0.own = same_Some a.0.own b.0.own (sym a.0.at
     ∙ ap (λ f. message_along f (type_at p i).path) files ∙ b.0.at) in
     sym a.1 ∙ owns ∙ b.1
 
@@ -64,7 +62,7 @@ body_same a b e = cc e
 one_declared : (fs : List FileContent) → AreLinked fs → (full : Text) (r s : DescriptorProto)
     → Declare fs full r → Declare fs full s → ranges_of r ≡ ranges_of s
 one_declared fs linked full r s a b =
-    let bodies = some_same (of_message a.facts) (of_message b.facts)
+    let bodies = same_Some (of_message a.facts) (of_message b.facts)
     (sym (body_found fs linked a.file (record { name = full; body = of_message a.facts }) a.there
     a.inside)
     ∙ body_found fs linked b.file (record { name = full; body = of_message b.facts }) b.there

@@ -100,7 +100,7 @@ settled_tells linked new s tells =
 
 -- ---- further records
 
-pub declare_more : (fs gs : List FileContent) (full : Text) (r : DescriptorProto)
+declare_more : (fs gs : List FileContent) (full : Text) (r : DescriptorProto)
     → Declare fs full r → Declare (fs ++ gs) full r
 declare_more fs gs full r d = record {
   file = d.file;

@@ -1,29 +1,26 @@
 -- Files whose messages keep the same declare the same messages, each with the same numbers.
-use Rattle.std.proofs.Common.{◌≡◌, inl, inr, List, [], ◌∷◌, ◌++◌, map, length, refl, sym, ap, ◌∙◌, subst}
+use Rattle.std.proofs.Common.{◌≡◌, List, [], ◌∷◌, ◌++◌, map, length, refl, sym, ap, ◌∙◌, subst}
 use Rattle.std.specs.List.{Contains, flat_map}
 use Rattle.std.proofs.lemmas.List.{append-nil}
 use Rattle.std.proofs.lemmas.List.Concat.{flat_map-append, flat_map-cons}
 use Rattle.descriptor_records.specs.Content.{Text, EnumContent, ServiceContent, MessageContent, message, MessageContents, no_messages, more_messages, FileContent}
-use Rattle.schema_view.specs.Declarations.{MessageFacts, Range, extension_range, facts_of, service_facts, Body, of_message, of_field, of_oneof, of_enum, of_value, of_service, of_method, of_extension, Declaration, one_field, one_oneof, one_extension, one_value, one_enum, one_method, one_service, in_message, in_messages, declarations}
+use Rattle.schema_view.specs.Declarations.{MessageFacts, Range, extension_range, facts_of, service_facts, Body, of_message, of_enum, of_service, Declaration, one_field, one_oneof, one_extension, one_value, one_enum, one_method, one_service, in_message, in_messages, declarations}
 use Rattle.schema_view.specs.Files.{text_of, join, package_of}
-use Rattle.schema_view.proofs.Lists.{contains_here, contains_cases, contains_none, contains_flat, contains_flat_cases}
+use Rattle.schema_view.proofs.Lists.{contains_here, contains_flat, contains_flat_cases, contains_map_cases}
+use Rattle.types_view.specs.Fields.{NamedMessage, messages_in}
+use Rattle.types_view.proofs.Told.{message_declared}
 use Rattle.told_messages.proofs.Keepings.{Keeping, keeping, Keepings, no_keepings, more_keepings, kept_by, kept_by_all, FileKeeping, kept_in}
 
 -- a message's full name, and the numbers that it keeps
 abbrev Told : Type 0
 Told = Text × List Range
 
+-- what a message that is written tells
+abbrev kept : NamedMessage → Told
+kept w = (w.0, map extension_range w.1.extensions)
+
 abbrev told_by : Declaration → List Told
-told_by d = elim d.body [
-  | of_message m ↦ (d.name, map extension_range m.extensions) ∷ []
-  | of_field f ↦ []
-  | of_oneof o ↦ []
-  | of_enum e ↦ []
-  | of_value v ↦ []
-  | of_service s ↦ []
-  | of_method m ↦ []
-  | of_extension x ↦ []
-]
+told_by d = map kept (messages_in d)
 
 abbrev tell : List Declaration → List Told
 tell ds = flat_map told_by ds
@@ -154,22 +151,13 @@ told_body : (n : Text) (b : Body) (t : Told) → Contains (told_by (record { nam
     × (◌≡◌ {A = Declaration} (record { name = n; body = b })
     (record { name = t.0; body = of_message m }))
     × (map extension_range m.extensions ≡ t.1)
-told_body n (of_message m) t h =
-    elim (contains_cases (n, map extension_range m.extensions) [] t h) [
-      | inl same ↦ (
-        m,
-        ap (λ (x : Told). record { name = x.0; body = of_message m }) same,
-        ap (λ (x : Told). x.1) same,
-      )
-      | inr nothing ↦ absurd (contains_none t nothing)
-    ]
-told_body n (of_field f) t h = absurd (contains_none t h)
-told_body n (of_oneof o) t h = absurd (contains_none t h)
-told_body n (of_enum e) t h = absurd (contains_none t h)
-told_body n (of_value v) t h = absurd (contains_none t h)
-told_body n (of_service s) t h = absurd (contains_none t h)
-told_body n (of_method m) t h = absurd (contains_none t h)
-told_body n (of_extension x) t h = absurd (contains_none t h)
+told_body n b t h =
+    let w = contains_map_cases kept (messages_in (record { name = n; body = b })) t h in
+    let named : Told → Declaration = λ x. record { name = x.0; body = of_message w.0.1 } in (
+      w.0.1,
+      message_declared n b w.0 w.1 ∙ ap named w.2,
+      ap (λ (x : Told). x.1) w.2,
+    )
 
 pub told_alike : (f g : FileContent) → kept_in f ≡ kept_in g → (full : Text) (m : MessageFacts)
     → Contains (declarations f) (record { name = full; body = of_message m })

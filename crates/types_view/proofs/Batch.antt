@@ -1,5 +1,5 @@
 -- The entries of accepted files tell of their fields.
-use Rattle.std.proofs.Common.{◌≡◌, ◌∙◌, inl, inr, ◌+◌, ◌<◌, ◌&&◌, ◌==◌, ℕ, suc, Bool, true, false, List, [], ◌∷◌, ◌++◌, Option, Some, is_some, length, map, slice_get, slice_index_or, unwrap_or, append_assoc, ap, sym, subst, refl, arith}
+use Rattle.std.proofs.Common.{◌≡◌, ◌∙◌, inl, inr, ◌+◌, ◌<◌, ◌&&◌, ◌==◌, ℕ, suc, Bool, true, false, List, [], ◌∷◌, ◌++◌, Option, Some, is_some, length, map, slice_get, slice_index_or, unwrap_or, ap, sym, subst, refl, arith}
 use Rattle.std.specs.List.{AllZip, Contains, filter, flat_map}
 use Rattle.std.proofs.lemmas.List.{map-append}
 use Rattle.std.proofs.lemmas.List.Concat.{flat_map-append}
@@ -20,11 +20,10 @@ use Rattle.reflect_index.specs.Members.{MarksOneofs}
 use Rattle.reflect_names.specs.Faults.{batch_places}
 use Rattle.reflect_names.specs.Names.{Places}
 use Rattle.reflect_names.specs.ReferencePass.{views_of}
-use Rattle.reflect_names.specs.References.{View, name_targets, reference_faults, reference_faults_at, targets_of}
+use Rattle.reflect_names.specs.References.{View, reference_faults, reference_faults_at, targets_of}
 use Rattle.reflect_names.specs.ReferenceSteps.{target_of}
 use Rattle.reflect_passes.specs.NameFaults.{name_faults}
 use Rattle.reflect_pool.specs.Linked.{empty_pool}
-use Rattle.reflect_references.specs.Meanings.{behind}
 use Rattle.reflect_scope.specs.FileIndexes.{Indexes}
 use Rattle.reflect_scope.specs.Known.{Known}
 use Rattle.reflect_scope.specs.declared.definition.DefinitionKind.TheVariants as kind
@@ -52,7 +51,7 @@ use Rattle.linked_view.specs.AtHand.{kind_by}
 use Rattle.linked_view.specs.Extended.{IsIndexed}
 use Rattle.linked_view.specs.Known.{AreKnown}
 use Rattle.linked_view.proofs.Accepted.{indexes, known, known_all, names_at, stand_linked}
-use Rattle.linked_view.proofs.AtHand.{IsResolved, at_hand, resolved_one, resolved_type}
+use Rattle.linked_view.proofs.AtHand.{IsResolved, at_hand, extension_at_hand, resolved_one, resolved_type}
 use Rattle.linked_view.proofs.Faults.{none_both}
 use Rattle.linked_view.proofs.Indexed.{among}
 use Rattle.linked_view.proofs.Linked.{meanings, sees_at}
@@ -188,9 +187,6 @@ module _ (views : ℕ → View) where
   HaveFields n ds ys = (d : Declaration) (own : MessageParts) (j : ℕ) (y : StoredMessage)
       → Among d ds → d.body ≡ of_message own → d.index ≡ n + j → slice_get ys j ≡ Some y
       → HasFields d.name own y
-
-  Zipped : List NamedMessage → List StoredMessage → Type 0
-  Zipped ws ys = AllZip ListsFields ws (map message_of ys)
 
   messages_zipped : (n : ℕ) (full : List ℕ) (fs : List FieldDescriptorProto) (h : AtHand)
       (ds : List Declaration) (k : ℕ) (ys : List StoredMessage) → Pending n full fs ds k
@@ -484,17 +480,15 @@ module _ (old new : PoolType) (ns : List FileDescriptorProto) (w : Linking) (is 
       let sight : seen_body d.body ≡ Some body = ap seen_body f.body in
       let n = next m f.here in
       let v = views d.file in
+      let faultless = subst (λ b. reference_faults_at (at d.file) v (record d { body = b }) ≡ []) f.body
+      n.none in
       let none = none_both (reference_faults (at d.file) v filter.Message d.path d.name _ r.extendee) _
-      (subst (λ b. reference_faults_at (at d.file) v (record d { body = b }) ≡ []) f.body n.none) in
+      faultless in
       let rest = subst (λ b. map target_of m.hand.rest
       ≡ targets_of v (record d { body = b }) ++ n.more) f.body n.next in
-      let second = name_targets v filter.FieldType d.name r.type_name in
       let extends = resolved_one (at d.file) v d.path d.name filter.Message _ r.extendee none.0 in
       let typed = resolved_type (at d.file) v d.path d.name r none.1 in
-      let first = at_hand v filter.Message d.name r.extendee m.hand.rest (second ++ n.more) extends
-      (rest ∙ append_assoc (name_targets v filter.Message d.name r.extendee) second n.more) in
-      let last = at_hand v filter.FieldType d.name r.type_name (behind r.extendee m.hand.rest) n.more
-      typed first.left in
+      let hands = extension_at_hand (at d.file) v d r m.hand.rest n.more faultless rest in
       let same = view_is m f.here body sight in
       let c = content m f.here body sight in
       let names = namings m f.here body sight in
@@ -502,13 +496,13 @@ module _ (old new : PoolType) (ns : List FileDescriptorProto) (w : Linking) (is 
       r.extendee x.extendee
       (subst (λ u. IsResolved u filter.Message d.name r.extendee) same extends)
       (subst (λ u. kind_by u filter.Message d.name r.extendee ≡ Some (kind.Message x.extendee)) same
-      (sym first.kind ∙ f.by.extendee)) in
+      (sym hands.0.kind ∙ f.by.extendee)) in
       let full = rename_message_type names d.name (text_view r.extendee) in
       let held = linked_holds all all_known are ixs sees ms es ms_stand es_stand c d.name r full
       f.by.holds
       (subst (λ u. IsResolved u filter.FieldType d.name r.type_name) same typed)
       (subst (λ u. HasKind r (kind_by u filter.FieldType d.name r.type_name) f.by.holds) same
-      (subst (λ k. HasKind r k f.by.holds) last.kind f.by.kind)) in
+      (subst (λ k. HasKind r k f.by.holds) hands.1.kind f.by.kind)) in
       record {
         field = record {
           file = file m f.here body sight;
@@ -535,14 +529,7 @@ module _ (old new : PoolType) (ns : List FileDescriptorProto) (w : Linking) (is 
       → messages_by (see messages_by messages_in all all_known are ixs sees f) (record d { body = b })
       ≡ listed_seen messages_by messages_in all all_known are ixs sees f (seen (record d { body = b }))
   body_messages f d (of_file x) = refl
-  body_messages f d (of_message m) = refl
-  body_messages f d (of_field x) = refl
-  body_messages f d (of_oneof o) = refl
-  body_messages f d (of_enum k) = refl
-  body_messages f d (of_enum_value x) = refl
-  body_messages f d (of_service s) = refl
-  body_messages f d (of_method m) = refl
-  body_messages f d (of_extension x) = refl
+  body_messages f d b = refl
 
   batch_messages : messages_along views ds ≡ written_messages after
   batch_messages = batch_listed messages_by messages_in all all_known are ixs sees
@@ -626,7 +613,7 @@ module _ (old new : PoolType) (ns : List FileDescriptorProto) (w : Linking) (is 
             batch.types.new.now batch.declared.entries x (among new_extensions x k))
       ]
 
-  pub fields_tell : TellsFields new
+  fields_tell : TellsFields new
   fields_tell = record { listed = listed_new; fields = fields_new; extensions = extensions_new }
 
 pub pool_fields : (old new : PoolType) (fs : List FileDescriptorProto) → IsWellNamed old

@@ -1,5 +1,6 @@
 -- The defaults of fields by their records, and by their entries.
 use Rattle.std.proofs.Common.{◌≡◌, ◌∙◌, ◌⊎◌, inl, inr, ◌<◌, ◌^◌, ℕ, ℤ, pos, negsuc, nat_lt, Bool, true, false, cond, bytes_eq, codes, List, [], ◌∷◌, Option, Some, None, map, slice_get, slice_index_or, ap, sym, subst, refl, arith}
+use Rattle.std.proofs.lemmas.Option.{same_Some}
 use Rattle.std.specs.Prelude.{FitsSigned}
 use Rattle.std.specs.Int.{w32}
 use Rattle.std.specs.List.{Contains, find}
@@ -20,9 +21,9 @@ use Rattle.reflect_defaults.specs.declared.default.DefaultText.TheVariants as sa
 use Rattle.reflect_fields.specs.FieldDefaults.{IsDefaultOf, IsNumbered, IsScalarDefault, default_type}
 use Rattle.reflect_fields.specs.Fields.{scalar_type}
 use Rattle.reflect_tables.specs.Names.{enums, messages, names_of}
-use Rattle.reflect_tables.specs.Types.{DefaultType, EnumType, KindType, PoolType, ValueType, named, no_enum}
+use Rattle.reflect_tables.specs.Types.{DefaultType, EnumType, KindType, PoolType, ValueType, no_enum}
 use Rattle.reflect_tables.specs.Types as types
-use Rattle.schema_view.specs.Declarations.{Body, MessageFacts, of_message, of_field, of_oneof, of_enum, of_value, of_service, of_method, of_extension}
+use Rattle.schema_view.specs.Declarations.{Body, MessageFacts, of_message, of_field, of_enum, of_extension}
 use Rattle.schema_view.specs.Lawful.{HasNamedDefault, IsSettled, outlines}
 use Rattle.schema_view.specs.Outlines.{IsDeclared, Outline, enum_sort, sort_of, value_name}
 use Rattle.schema_view.specs.Scalars.{IsDefault, is_scalar}
@@ -42,7 +43,7 @@ use Rattle.linked_view.specs.Valued.{NumberedValue, TellsValues, numbered_value}
 use Rattle.reflect_index.proofs.Among.{index_is}
 use Rattle.linked_view.proofs.Defaults.{one_type, says_from, type_only}
 use Rattle.types_view.specs.Fields.{HasDefault, IsGiven, TellsFields}
-use Rattle.types_view.proofs.KindNumbers.{Sorted, a_message, a_scalar, an_enum, each_scalar, scalar_kind, some_kind}
+use Rattle.types_view.proofs.KindNumbers.{Sorted, a_message, a_scalar, an_enum, each_scalar, scalar_kind}
 use Rattle.types_view.proofs.Told.{EnumTold, IsDeclaredAs, V, enum_at, enum_told, message_at, message_told, of_sort, one_body, type_is}
 
 -- the default of a kind, where this is declared
@@ -67,7 +68,7 @@ narrow_unsigned_fits n less =
     let low : nat_lt n (2 ^ 32) ≡ true = grind (arith, less) in
     ap (λ b. cond b (Some (held.uint32 n)) None) low
 
-pub scalar_is : (t : TypeNumber) (k : KindType) → scalar_type t ≡ Some k
+scalar_is : (t : TypeNumber) (k : KindType) → scalar_type t ≡ Some k
     → is_scalar (type_number t) ≡ true
 scalar_is numbers.Group k e = absurd (cc e)
 scalar_is numbers.Message k e = absurd (cc e)
@@ -92,7 +93,7 @@ module _ (p : PoolType) (vs : List EnumValueContent) where
     said_at : (j k : KindType) (d e : DefaultText) → Some j ≡ Some k → d ≡ e → IsSaid j e
         → IsSaid k d
     said_at j k d e h is own =
-        subst (λ i. IsSaid i d) (some_kind j k h) (subst (IsSaid j) (sym is) own)
+        subst (λ i. IsSaid i d) (same_Some j k h) (subst (IsSaid j) (sym is) own)
 
     abbrev or_kind : KindType → Option held.Single → Single
     or_kind k o = elim (option_or o (kind_default p k)) [ None ↦ model.text [] | Some v ↦ single_view v ]
@@ -118,20 +119,17 @@ module _ (p : PoolType) (vs : List EnumValueContent) where
     scalar_said numbers.Fixed32 k d e h = said_at types.fixed32 k d _ e h.1
         (λ f. ap (or_kind types.fixed32) (narrow_unsigned_fits (digits_value 10 s) h.0.1))
     scalar_said numbers.Bool k (says.Bool b) e h = truth_said k b e h
-    scalar_said numbers.Bool k d e h = absurd h
     scalar_said numbers.String k d e h = said_at types.string k d says.Text e h (λ f. refl)
-    scalar_said numbers.Group k d e h = absurd h
-    scalar_said numbers.Message k d e h = absurd h
     scalar_said numbers.Bytes k d e h = said_at types.bytes k d says.Bytes e h.1 (λ f. refl)
     scalar_said numbers.Uint32 k d e h = said_at types.uint32 k d _ e h.1
         (λ f. ap (or_kind types.uint32) (narrow_unsigned_fits (digits_value 10 s) h.0.1))
-    scalar_said numbers.Enum k d e h = absurd h
     scalar_said numbers.Sfixed32 k d e h = said_at types.sfixed32 k d _ e h.1
         (λ f. ap (or_kind types.sfixed32) (narrow_fits (signed_digits_value 10 s) h.0.1))
     scalar_said numbers.Sfixed64 k d e h = said_at types.sfixed64 k d _ e h.1 (λ f. refl)
     scalar_said numbers.Sint32 k d e h = said_at types.sint32 k d _ e h.1
         (λ f. ap (or_kind types.sint32) (narrow_fits (signed_digits_value 10 s) h.0.1))
     scalar_said numbers.Sint64 k d e h = said_at types.sint64 k d _ e h.1 (λ f. refl)
+    scalar_said t k d e h = absurd h
 
     -- a text that is a default of the type is read as what it says
     read_said : (t : TypeNumber) (d : Option DefaultType) → IsDefault t s → IsScalarDefault t s d
@@ -213,12 +211,7 @@ settled_in os (of_field f) c e h =
     let same : f ≡ c = cc e in subst (HasNamedDefault os) same h.defaults
 settled_in os (of_extension f) c e h =
     let same : f ≡ c = cc e in subst (HasNamedDefault os) same h.defaults
-settled_in os (of_message m) c e h = absurd (cc e)
-settled_in os (of_oneof m) c e h = absurd (cc e)
-settled_in os (of_enum m) c e h = absurd (cc e)
-settled_in os (of_value m) c e h = absurd (cc e)
-settled_in os (of_service m) c e h = absurd (cc e)
-settled_in os (of_method m) c e h = absurd (cc e)
+settled_in os b c e h = absurd (cc e)
 
 module _ (p : PoolType) (l : AreLinked (map file_view p.records)) (tells : TellsFields p)
     (values : TellsValues p) (c : FieldContent) (s : StandsIn (map file_view p.records) c) where
@@ -231,7 +224,7 @@ module _ (p : PoolType) (l : AreLinked (map file_view p.records)) (tells : Tells
       ((l.each s.file s.there).settled s.declaration s.inside)
 
   -- a default that is named stands among the values of the field's enum
-  pub value_there : (full text : Text) (e : EnumContent) → c.type_name ≡ Some (46 ∷ full)
+  value_there : (full text : Text) (e : EnumContent) → c.type_name ≡ Some (46 ∷ full)
       → IsDeclaredAs p l full (of_enum e) → c.default_value ≡ Some text
       → Contains (map value_name e.value) text
   value_there full text e written declared given = by (named_default text full given written) where

@@ -10,7 +10,7 @@ use Rattle.reflect_fields.specs.Fields.{natural}
 use Rattle.reflect_index.proofs.Among.{of_find, got_map}
 use Rattle.reflect_tables.specs.Names.{FullName, enums, message_name, messages, names_of}
 use Rattle.reflect_tables.specs.Types.{ExtensionType, FieldType, MessageType, PoolType}
-use Rattle.schema_view.specs.Declarations.{Body, Declaration, declarations, of_message, of_field, of_oneof, of_enum, of_value, of_service, of_method, of_extension}
+use Rattle.schema_view.specs.Declarations.{Body, Declaration, declarations, of_extension}
 use Rattle.schema_view.specs.Files.{is_proto3}
 use Rattle.schema_view.specs.Lawful.{Key, has_key, is_dotted}
 use Rattle.schema_view.specs.Rules.{HasFieldNumber, is_number}
@@ -70,13 +70,7 @@ key_is k (of_extension x) e =
       extendee = dotted_is k.0 x.extendee both.0;
       number = number_is k.1 x.number both.1;
     }
-key_is k (of_message m) e = absurd (cc e)
-key_is k (of_field f) e = absurd (cc e)
-key_is k (of_oneof o) e = absurd (cc e)
-key_is k (of_enum m) e = absurd (cc e)
-key_is k (of_value v) e = absurd (cc e)
-key_is k (of_service s) e = absurd (cc e)
-key_is k (of_method m) e = absurd (cc e)
+key_is k b e = absurd (cc e)
 
 pub is_key : (k : Key) (x : FieldContent) → x.extendee ≡ Some (46 ∷ k.0) → x.number ≡ Some k.1
     → has_key k (of_extension x) ≡ true
@@ -144,7 +138,7 @@ module _ (fs : List FileContent) (l : AreLinked fs) (k : Key) where
     pub inside : Contains (declarations file) declaration
     pub has : HasKey k declaration.body
 
-  pub key_there : (name : Text) → (view_of fs).extensions k ≡ Some name → KeyThere name
+  key_there : (name : Text) → (view_of fs).extensions k ≡ Some name → KeyThere name
   key_there name e =
       let f = first_from (extension_at k) fs name e in
       let d = first_from name_by (declarations f.0) name f.2 in

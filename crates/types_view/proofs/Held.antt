@@ -1,5 +1,6 @@
 -- Fields as messages hold them, by their records and by their entries.
 use Rattle.std.proofs.Common.{◌≡◌, ◌∙◌, ◌⊎◌, inl, inr, ℕ, ℤ, pos, Bool, true, false, not, ◌&&◌, ◌||◌, ◌==◌, cond, List, [], ◌∷◌, Option, Some, None, is_some, length, map, slice_get, slice_index_or, unwrap_or, ap, sym, subst, refl}
+use Rattle.std.proofs.lemmas.Option.{same_Some}
 use Rattle.std.specs.List.{Contains, filter, find}
 use Rattle.std.specs.Option.{option_and_then, option_map}
 use Rattle.descriptor_records.specs.Content.{Text, FieldContent, FileContent, OptionsContent, file_view}
@@ -37,7 +38,7 @@ use Rattle.reflect_index.proofs.Among.{index_is}
 use Rattle.types_view.specs.Fields.{IsEntryOf, IsListed, TellsFields, is_optional}
 use Rattle.types_view.proofs.Defaults.{default_same}
 use Rattle.types_view.proofs.Found.{body_found, proto3_found}
-use Rattle.types_view.proofs.KindNumbers.{IsSuited, Sorted, a_message, a_scalar, an_enum, each_scalar, number_of_message, scalar_kind, some_kind, sorted, suited}
+use Rattle.types_view.proofs.KindNumbers.{IsSuited, Sorted, a_message, a_scalar, an_enum, each_scalar, number_of_message, scalar_kind, sorted, suited}
 use Rattle.types_view.proofs.Listed.{Agree, HasFirst, HasNone, first_or_none, numbers_agree, one_bit}
 use Rattle.types_view.proofs.Told as told
 use Rattle.types_view.proofs.Told.{IsDeclaredAs, IsMessageNumber, MessageTold, V, body_is, message_told, one_body, type_is}
@@ -131,7 +132,7 @@ float_key numbers.Float k e h = absurd (cc h)
 float_key numbers.Group k e h = absurd (cc e)
 float_key numbers.Message k e h = absurd (cc e)
 float_key numbers.Enum k e h = absurd (cc e)
-float_key t k e h = subst (λ j. is_float j ≡ false) (some_kind _ k e) refl
+float_key t k e h = subst (λ j. is_float j ≡ false) (same_Some _ k e) refl
 
 key_kind : (p : PoolType) (group : Bool) (ms es : List FullName) (c : FieldContent) (k : KindType)
     → Sorted ms es c k → view.is_key_type (view.scalar_type c.field_type c.type_name) ≡ true
@@ -193,7 +194,7 @@ module _ (p : PoolType) (l : AreLinked (map file_view p.records)) (tells : Tells
       default = said.default_of (said.values_of (said.type_at W c)) c.default_value k;
     }
 
-    pub part_same : said.part_of W proto3 extension c
+    part_same : said.part_of W proto3 extension c
         ≡ cond (is_float e.kind) None (Some (pool.part_of p e))
     unfolding part_by
     part_same = ap (option_map part_by) suits.kind ∙ by (is_float e.kind) refl where
@@ -272,7 +273,7 @@ module _ (p : PoolType) (l : AreLinked (map file_view p.records)) (tells : Tells
       pub declared : IsDeclaredAs p l (join m.full_name (text_of x.name)) (of_field content)
       pub facts : facts_of content ≡ x
 
-    pub content_of : (x : FieldFacts) → Contains own.facts.fields x → IsOf x
+    content_of : (x : FieldFacts) → Contains own.facts.fields x → IsOf x
     content_of x h =
         let d = own.declared in
         let f = fields_declared d.file m.full_name own.facts d.inside x h in
@@ -372,7 +373,7 @@ module _ (p : PoolType) (l : AreLinked (map file_view p.records)) (tells : Tells
     own_field n = first_field (has_number n) (is_numbered n)
         (numbers_agree m.full_name n own.facts.fields m.fields numbered)
 
-    pub entry_same : (n : ℕ) (o : NumberedField i m own.facts.fields n)
+    entry_same : (n : ℕ) (o : NumberedField i m own.facts.fields n)
         → said.entry_part W m.full_name n
         ≡ cond (is_float o.entry.kind) None (Some (pool.part_of p o.entry))
     entry_same n o =
@@ -405,7 +406,7 @@ module _ (p : PoolType) (l : AreLinked (map file_view p.records)) (tells : Tells
       pub is_key : view.is_key_type
           (view.scalar_type key.content.field_type key.content.type_name) ≡ true
 
-    pub is_keyed : said.is_entry own.facts ≡ true → IsKeyed
+    is_keyed : said.is_entry own.facts ≡ true → IsKeyed
     is_keyed entry =
         let d = own.declared in
         let sound : IsMessage own.facts =

@@ -1,5 +1,6 @@
 -- The kinds of fields by the numbers of their types, and by what their entries hold.
 use Rattle.std.proofs.Common.{◌≡◌, ◌∙◌, inl, inr, ℕ, pos, Bool, cond, ◌||◌, List, [], ◌∷◌, Some, None, map, slice_get, ap, sym, subst, refl}
+use Rattle.std.proofs.lemmas.Option.{same_Some}
 use Rattle.descriptor_records.specs.Content.{Text, FieldContent, file_view}
 use Rattle.descriptor_records.specs.FieldNumbers.{type_number}
 use Rattle.descriptor_records.specs.declared.field.FieldType.{FieldType as TypeNumber}
@@ -30,9 +31,6 @@ pub record IsSuited (p : PoolType) (group : Bool) (c : FieldContent) (k : KindTy
   pub message : holds_message c ≡ is_message k
   pub packable : is_packable c.field_type ≡ fields.is_packable k
 
-pub some_kind : (j k : KindType) → Some j ≡ Some k → j ≡ k
-some_kind j k e = cc e
-
 -- ---- scalars
 
 -- what holds of each kind that is no message and no enum holds of what a scalar type holds
@@ -43,7 +41,7 @@ pub each_scalar : (P : KindType → Type 0) → P types.double → P types.float
     → P k
 each_scalar P d f i64 u64 i32 f64 f32 b s bs u32 sf32 sf64 s32 s64 t k e = by t e where
   at : (j : KindType) → P j → Some j ≡ Some k → P k
-  at j h same = subst P (some_kind j k same) h
+  at j h same = subst P (same_Some j k same) h
 
   by : (t : TypeNumber) → scalar_type t ≡ Some k → P k
   by numbers.Double e = at types.double d e
@@ -77,13 +75,13 @@ module _ (p : PoolType) (group : Bool) (c : FieldContent) where
       → (is_number (pos 10) (Some (type_number t)) || is_number (pos 11) (Some (type_number t)))
       ≡ is_message j
       → is_packable (Some (type_number t)) ≡ fields.is_packable j → IsSuited p group c k
-  made t j k e h kind message packable = subst (IsSuited p group c) (some_kind j k h) (record {
+  made t j k e h kind message packable = subst (IsSuited p group c) (same_Some j k h) (record {
     kind = ap (λ o. kind_by o (type_name c)) e ∙ kind;
     message = ap (λ o. is_number (pos 10) o || is_number (pos 11) o) e ∙ message;
     packable = ap is_packable e ∙ packable;
   })
 
-  pub scalar_suited : (t : TypeNumber) (k : KindType) → c.field_type ≡ Some (type_number t)
+  scalar_suited : (t : TypeNumber) (k : KindType) → c.field_type ≡ Some (type_number t)
       → scalar_type t ≡ Some k → IsSuited p group c k
   scalar_suited numbers.Double k e h = made numbers.Double types.double k e h refl refl refl
   scalar_suited numbers.Float k e h = made numbers.Float types.float k e h refl refl refl

@@ -21,7 +21,7 @@ one_bit true false to from = sym (to refl)
 one_bit false true to from = from refl
 one_bit false false to from = refl
 
-pub same_natural : (k n : ℕ) → (k == n) ≡ int_eq (pos k) (pos n)
+same_natural : (k n : ℕ) → (k == n) ≡ int_eq (pos k) (pos n)
 same_natural k n = one_bit (k == n) (int_eq (pos k) (pos n))
     (λ e. let same : k ≡ n = grind (arith, e) in (Decides-int_eq (pos k) (pos n)).1 (ap pos same))
     (λ e. let same : k ≡ n = cc ((Decides-int_eq (pos k) (pos n)).0 e) in grind (arith, same))

@@ -8,7 +8,7 @@ use Rattle.descriptor_records.specs.Content.{Text, EnumContent, FieldContent, Fi
 use Rattle.reflect_tables.specs.Names.{FullName, enum_name, enums, message_name, messages, names_of}
 use Rattle.reflect_tables.specs.Types.{EnumType, MessageType, PoolType, ValueType}
 use Rattle.reflect_index.proofs.Among.{get_map, got_map, zip_place}
-use Rattle.schema_view.specs.Declarations.{Body, Declaration, MessageFacts, declarations, of_message, of_field, of_oneof, of_enum, of_value, of_service, of_method, of_extension}
+use Rattle.schema_view.specs.Declarations.{Body, Declaration, MessageFacts, declarations, of_message, of_enum}
 use Rattle.schema_view.specs.Files.{text_of}
 use Rattle.schema_view.specs.Lawful.{outlines}
 use Rattle.schema_view.specs.Means.{HasType}
@@ -21,14 +21,15 @@ use Rattle.schema_view.proofs.Lists.{contains_cases, contains_flat_cases, contai
 use Rattle.schema_view.proofs.Road.{AreLinked}
 use Rattle.schema_view.proofs.Standing.{StandsIn, type_there}
 use Rattle.schema_view.proofs.Targets.{type_in}
-use Rattle.linked_view.specs.Valued.{NamedValues, TellsValues, kept_values, numbered_value, values_in, written_values}
+use Rattle.linked_view.specs.Valued.{TellsValues, kept_values, numbered_value, values_in, written_values}
+use Rattle.linked_view.proofs.Defaulted.{enum_declared}
 use Rattle.linked_view.proofs.Places.{get_contains}
 use Rattle.types_view.specs.Fields.{IsListed, IsWrittenAt, ListsFields, NamedMessage, TellsFields, messages_in, written_messages}
 use Rattle.types_view.proofs.Found.{body_found}
 
 -- ---- what is written is declared
 
-message_declared : (n : Text) (b : Body) (w : NamedMessage)
+pub message_declared : (n : Text) (b : Body) (w : NamedMessage)
     → Contains (messages_in (record { name = n; body = b })) w
     → ◌≡◌ {A = Declaration} (record { name = n; body = b })
     (record { name = w.0; body = of_message w.1 })
@@ -36,39 +37,7 @@ message_declared n (of_message m) w h = elim (contains_cases (n, m) [] w h) [
   | inl same ↦ ap (λ (v : NamedMessage). record { name = v.0; body = of_message v.1 }) same
   | inr none ↦ absurd (contains_none w none)
 ]
-message_declared n (of_field f) w h = absurd (contains_none w h)
-message_declared n (of_oneof o) w h = absurd (contains_none w h)
-message_declared n (of_enum e) w h = absurd (contains_none w h)
-message_declared n (of_value v) w h = absurd (contains_none w h)
-message_declared n (of_service s) w h = absurd (contains_none w h)
-message_declared n (of_method m) w h = absurd (contains_none w h)
-message_declared n (of_extension x) w h = absurd (contains_none w h)
-
-pub record DeclaresValues (n : Text) (b : Body) (w : NamedValues) : Type 0 where
-  pub content : EnumContent
-  pub body : b ≡ of_enum content
-  pub name : n ≡ w.0
-  pub values : map numbered_value content.value ≡ w.1
-
-enum_declared : (n : Text) (b : Body) (w : NamedValues)
-    → Contains (values_in (record { name = n; body = b })) w → DeclaresValues n b w
-enum_declared n (of_enum e) w h =
-    elim (contains_cases (n, map numbered_value e.value) [] w h) [
-      | inl same ↦ record {
-        content = e;
-        body = refl;
-        name = ap (λ (v : NamedValues). v.0) same;
-        values = ap (λ (v : NamedValues). v.1) same;
-      }
-      | inr none ↦ absurd (contains_none w none)
-    ]
-enum_declared n (of_message m) w h = absurd (contains_none w h)
-enum_declared n (of_field f) w h = absurd (contains_none w h)
-enum_declared n (of_oneof o) w h = absurd (contains_none w h)
-enum_declared n (of_value v) w h = absurd (contains_none w h)
-enum_declared n (of_service s) w h = absurd (contains_none w h)
-enum_declared n (of_method m) w h = absurd (contains_none w h)
-enum_declared n (of_extension x) w h = absurd (contains_none w h)
+message_declared n b w h = absurd (contains_none w h)
 
 -- ---- numbers of types
 
@@ -217,32 +186,26 @@ module _ (p : PoolType) (l : AreLinked (map file_view p.records)) where
 
 -- ---- names that are written
 
-pub record WritesMessage (p : PoolType) (o : Option Text) (i : ℕ) : Type 0 where
-  pub type : MessageType
-  pub at : slice_get p.messages i ≡ Some type
-  pub written : o ≡ Some (46 ∷ type.full_name)
+-- the name is written of the entry at the place
+pub record Writes {X : Type 0} (name : X → FullName) (items : List X) (o : Option Text) (i : ℕ) : Type 0 where
+  pub type : X
+  pub at : slice_get items i ≡ Some type
+  pub written : o ≡ Some (46 ∷ (name type).0)
+
+entry_at : {X : Type 0} (name : X → FullName) (items : List X) (o : Option Text) (i : ℕ)
+    → IsWrittenAt (map name items) o i → Writes name items o i
+entry_at name items o i w =
+    let x = got_map name items i (w.full, w.file) w.there in
+    record {
+      type = x.0;
+      at = x.1;
+      written = w.written ∙ ap (λ (n : FullName). Some (46 ∷ n.0)) (sym x.2);
+    }
 
 pub message_at : (p : PoolType) (o : Option Text) (i : ℕ) → IsWrittenAt (names_of p messages) o i
-    → WritesMessage p o i
-message_at p o i w =
-    let x = got_map message_name p.messages i (w.full, w.file) w.there in
-    record {
-      type = x.0;
-      at = x.1;
-      written = w.written ∙ ap (λ (n : FullName). Some (46 ∷ n.0)) (sym x.2);
-    }
-
-pub record WritesEnum (p : PoolType) (o : Option Text) (i : ℕ) : Type 0 where
-  pub type : EnumType
-  pub at : slice_get p.enums i ≡ Some type
-  pub written : o ≡ Some (46 ∷ type.full_name)
+    → Writes message_name p.messages o i
+message_at p = entry_at message_name p.messages
 
 pub enum_at : (p : PoolType) (o : Option Text) (i : ℕ) → IsWrittenAt (names_of p enums) o i
-    → WritesEnum p o i
-enum_at p o i w =
-    let x = got_map enum_name p.enums i (w.full, w.file) w.there in
-    record {
-      type = x.0;
-      at = x.1;
-      written = w.written ∙ ap (λ (n : FullName). Some (46 ∷ n.0)) (sym x.2);
-    }
+    → Writes enum_name p.enums o i
+enum_at p = entry_at enum_name p.enums

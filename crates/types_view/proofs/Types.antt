@@ -117,7 +117,7 @@ module _ (p : PoolType) (l : AreLinked (map file_view p.records)) (tells : Tells
           ∙ held _ o.entry
           ∙ sym (ap (λ x. option_map (of_own i) (option_and_then (if_held p) x)) o.found)
 
-    pub place_same : (n : ℕ) → pool.field_at p i n ≡ said.types_of W m.full_name n
+    place_same : (n : ℕ) → pool.field_at p i n ≡ said.types_of W m.full_name n
     place_same n =
         either_is i (known_field p i n) (known_extension p i n)
         ∙ ap (λ o. option_or o (option_map (λ g. field_of p None true g) (known_extension p i n)))
@@ -145,7 +145,7 @@ module _ (p : PoolType) (l : AreLinked (map file_view p.records)) (tells : Tells
         (find (λ (f : FieldType). f.number == n) x.fields))
         (ap (λ k. slice_index_or p.messages k no_type) s.end ∙ behind_last p.messages)
 
-    pub nowhere_same : (n : ℕ) → pool.types_of p t n ≡ said.types_of W t n
+    nowhere_same : (n : ℕ) → pool.types_of p t n ≡ said.types_of W t n
     nowhere_same n =
         let i = place_in p.messages t in
         either_is i (known_field p i n) (known_extension p i n)

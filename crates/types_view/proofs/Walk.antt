@@ -22,7 +22,7 @@ use Rattle.reflect_declarations.specs.Declarations.{Body, Declaration, each, ent
 use Rattle.reflect_declarations.specs.Tree.{Message, MessageParts, Messages, message, more_messages, no_messages, text_of}
 use Rattle.reflect_declarations.specs.declared.offsets.Offsets.{Offsets}
 use Rattle.schema_view.proofs.Lists.{contains_here, contains_there}
-use Rattle.linked_view.proofs.Extensions.{left_behind}
+use Rattle.linked_view.proofs.AtHand.{left_behind}
 use Rattle.linked_view.proofs.Faults.{none_both}
 use Rattle.linked_view.proofs.Known.{next_file}
 use Rattle.linked_view.proofs.Messages.{ArePlain, IsPlain, enum_plain, plain_both, plain_each, service_plain}
@@ -322,7 +322,7 @@ module _ (full_names : List FullName) (known : Known)
   has_next h [] none e m k = absurd k
   has_next h (d ∷ ds) none e m k =
       by k (has_next (hand_behind h d) ds parts.1
-      (left_behind full_names known are sees at h.rest d d.body (targets_along views ds) parts.0 e) m)
+      (left_behind views at h.rest d d.body (targets_along views ds) parts.0 e) m)
     where
       parts : (reference_faults_at (at d.file) (views d.file) d ≡ [])
           × (reference_faults_along at views ds ≡ [])
