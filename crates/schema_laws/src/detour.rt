@@ -31,8 +31,8 @@ pub fn schemas_of_sources_are_grown()
         → IsGrown (length batches) s }
 {}
 
-/// Where sources alone made the schema, the set is not refused, unless memory runs out, or its files
-/// declare more together than one batch may.
+/// Where sources alone made the schema, the set is not refused, unless memory runs out, or its
+/// files declare more together than one batch may.
 pub fn own_sets_are_not_refused()
     ensures { (batches : SourceBatches) (s : Schema) → IsMadeOf batches s
         → AreBytes (pool_bytes s.pool) → length (pool_bytes s.pool) < 2 ^ 64
