@@ -31,8 +31,8 @@ pub fn schemas_of_sources_are_grown()
         → IsGrown (length batches) s }
 {}
 
-/// Where sources alone made the schema, the set is not refused, unless memory runs out, or its files
-/// declare more together than one batch may.
+/// Where sources alone made the schema, the set is not refused, unless memory runs out, or its
+/// files declare more together than one batch may.
 pub fn own_sets_are_not_refused()
     ensures { (batches : SourceBatches) (s : Schema) → IsMadeOf batches s
         → AreBytes (pool_bytes s.pool) → length (pool_bytes s.pool) < 2 ^ 64
@@ -42,7 +42,7 @@ pub fn own_sets_are_not_refused()
 {}
 
 /// The schema of the set has the same types, and says the same to texts, whatever made the first;
-/// where sources alone did it has the records that were written, so that its own set is the same.
+/// where sources alone did, it has the records that were written, so that its own set is the same.
 pub fn own_sets_give_the_same_schema()
     ensures records { (batches : SourceBatches) (s t : Schema) → IsMadeOf batches s
         → IsDetour s t → AreBytes (pool_bytes s.pool)

@@ -32,8 +32,8 @@ ghost use Rattle.text_view.specs.Schemas.{schema_of};
 ghost use Rattle.types_view.specs.Pools.{IsIndexed, IsKept, IsRecorded};
 ghost use Rattle.types_view.specs.Typed.{IsTyped};
 
-/// Where files are linked and settled, whether sources give them or a set does, linking reads of all
-/// records what it read of those that it made.
+/// Where files are linked and settled, whether sources give them or a set does, linking reads of
+/// all records what it read of those that it made.
 pub fn settled_files_are_read_alike()
     ensures { (earlier : List (List FileContent)) (old linked new : PoolType)
         (files typed : List FileDescriptorProto) (was : IsTyped earlier old)
