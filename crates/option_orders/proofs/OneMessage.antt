@@ -1,5 +1,6 @@
 -- Options set one message, along one path, by the numbers that their names lead to.
 use Rattle.std.proofs.Common.{◌≡◌, ℕ, zero, suc, ℤ, List, [], ◌∷◌, Option, Some, sym, ap, ◌∙◌, subst}
+use Rattle.std.proofs.lemmas.Option.{same_Some}
 use Rattle.descriptor_records.specs.Content.{NameContent, OptionContent}
 use Rattle.protobuf_model.specs.Meaning.{message_in}
 use Rattle.protobuf_model.specs.Types.{Name, Frame, Kind, nested, Label, one, many, keyed, Field}
@@ -13,23 +14,20 @@ use Rattle.option_orders.specs.SetOptions.{Gets, LeadAlike, Leads, Says, SetsAll
 use Rattle.text_model.specs.Tree.{Fields}
 use Rattle.text_model.specs.Value.{value}
 
-pub some_same : {X : Type 0} (x y : X) → Some x ≡ Some y → x ≡ y
-some_same x y e = cc e
-
 -- ---- what an option says, and what a field gets
 
 says_one : (w : Schema) (o : OptionContent) (wanted : Wanted) (c d : Content) → Says w o wanted c → Says w o wanted d → c ≡ d
-says_one w o (of_scalar enum k) c d a b = some_same c d (sym a ∙ b)
+says_one w o (of_scalar enum k) c d a b = same_Some c d (sym a ∙ b)
 says_one w o (of_message s) c d (z, tree, m, at, text, gives, is) (y, other, n, also, reads, given, same) =
-    let one_z : z ≡ y = some_same z y (sym at ∙ also) in
+    let one_z : z ≡ y = same_Some z y (sym at ∙ also) in
     let trees : tree ≡ other = one_text y tree other (subst (λ x. IsText x tree) one_z text).spelled reads.spelled in
-    let messages : m ≡ n = some_same m n (sym gives ∙ ap (λ (fs : Fields). value w s fs nothing) trees ∙ given) in
+    let messages : m ≡ n = same_Some m n (sym gives ∙ ap (λ (fs : Fields). value w s fs nothing) trees ∙ given) in
     is ∙ ap message messages ∙ sym same
 
 gets_one : (type : ℕ → Option Field) (n : ℕ) (f : Field) (l : Label) (c : Content) (old new other : Message) → Gets type n f l c old new → Gets type n f l c old other → new ≡ other
 gets_one type n f one c old new other a b = a.1 ∙ sym b.1
-gets_one type n f (many packed) c old new other a b = some_same new other (sym a ∙ b)
-gets_one type n f (keyed key) c old new other a b = some_same new other (sym a ∙ b)
+gets_one type n f (many packed) c old new other a b = same_Some new other (sym a ∙ b)
+gets_one type n f (keyed key) c old new other a b = same_Some new other (sym a ∙ b)
 
 module _ (w : Schema) (a b : Leads) (alike : LeadAlike a b) where
   -- ---- the last part
@@ -47,7 +45,7 @@ module _ (w : Schema) (a b : Leads) (alike : LeadAlike a b) where
 
   under_one : (o : OptionContent) (t : Name) (n : ℕ) (old new other : Message) (path also : List ℤ) → Under o t old new path n → Under o t old other also n → (new ≡ other) × (path ≡ also)
   under_one o t n old new other path also (f, has, (c, says, gets, is)) (g, too, rest) =
-      let fields : g ≡ f = some_same g f (sym too ∙ has) in
+      let fields : g ≡ f = same_Some g f (sym too ∙ has) in
       let r = subst (InField o t old other also n) fields rest in
       let contents : r.0 ≡ c = says_one w o (wanted_of w (w.names t) n f.part f.label) r.0 c r.1 says in (
         gets_one (w.types t) n f f.label c old new other gets (subst (λ d. Gets (w.types t) n f f.label d old other) contents r.2),
@@ -88,7 +86,7 @@ module _ (w : Schema) (a b : Leads) (alike : LeadAlike a b) where
   through_one : (o : OptionContent) (levels : ℕ) (parts : List NameContent) → OneBelow o levels parts → (t : Name) (n : ℕ) (old new other : Message) (path also : List ℤ)
       → Through a o levels parts t old new path n → Through b o levels parts t old other also n → (new ≡ other) × (path ≡ also)
   through_one o levels parts below t n old new other path also (f, has, first) (g, too, second) =
-      let fields : g ≡ f = some_same g f (sym too ∙ has) in
+      let fields : g ≡ f = same_Some g f (sym too ∙ has) in
       inside_one o levels parts below t n f.part.kind old new other path also first (subst (λ (x : Field). Inside b o levels parts t old other also n x.part.kind) fields second)
 
   pub parts_one : (o : OptionContent) (levels : ℕ) (parts : List NameContent) → OneBelow o levels parts

@@ -1,6 +1,7 @@
 -- A file that was linked to one content in two pools of the same files in the end settled to one content.
 use Rattle.std.proofs.Common.{◌≡◌, ◌<◌, ◌++◌, ◌∙◌, ℕ, List, [], ◌∷◌, map, length, None, Some, slice_get, ap, refl, sym, subst, arith, Contains}
 use Rattle.std.proofs.lemmas.List.{length-map}
+use Rattle.std.proofs.lemmas.Option.{same_Some}
 use Rattle.std.proofs.lemmas.List.Elements.{recursion_from_All}
 use Rattle.std.specs.List.{AllByRecursion, AllZip}
 use Rattle.std.specs.Option.{option_map}
@@ -31,7 +32,6 @@ use Rattle.schema_view.specs.Lawful.{Builds, SameFiles, sources}
 use Rattle.schema_view.specs.Plain.{IsPlainFile as HasPlainName}
 use Rattle.settled_again.specs.HeldOptions.{HasType}
 use Rattle.settled_alike.specs.Alike.{AllSettleAlike, IsSameEntity, SettleAlike}
-use Rattle.settled_alike.proofs.Moved.{some_is}
 use Rattle.settled_alike.proofs.Pools.{settle_alike}
 use Rattle.settled_alike.proofs.Walk.{same_entities}
 use Rattle.settled_options.proofs.Said.{no_dot}
@@ -113,7 +113,7 @@ module _ (batches others : List (List FileContent)) (after last : List FileConte
         let mine : (c.file ≡ a.index) × AreGiven c.scope (options_view o) = own o has in
         let theirs : (d.file ≡ b.index) × AreGiven d.scope (options_view w) = its w have in
         let one : options_view w ≡ options_view o =
-        some_is (options_view w) (options_view o) (sym (ap (option_map options_view) have) ∙ sym e.options ∙ ap (option_map options_view) has) in
+        same_Some (options_view w) (options_view o) (sym (ap (option_map options_view) have) ∙ sym e.options ∙ ap (option_map options_view) has) in
         let here : StandsIn a.own a.pool s (header_told x).name c.name = stands batches x y a s c mine.0 scope in
         let there : StandsIn b.own b.pool t (header_told x).name c.name =
         subst (λ (n : Text). StandsIn b.own b.pool t (header_told x).name n) (sym e.name) (stands others x z b t d theirs.0 range) in
@@ -138,4 +138,4 @@ module _ (batches others : List (List FileContent)) (after last : List FileConte
   one_content =
       let r : slice_get (map file_view a.new.records) a.index ≡ slice_get (map file_view b.new.records) b.index =
       settle_alike a.pool b.pool a.new b.new a.first b.first a.index b.index a.file b.file a.settles b.settles a.far (near batches x y a) b.far (near others x z b) a.there b.there content all_settle in
-      some_is y z (sym a.comes ∙ r ∙ b.comes)
+      same_Some y z (sym a.comes ∙ r ∙ b.comes)

@@ -1,6 +1,6 @@
 -- Locations of one content move alike.
 use Rattle.std.proofs.Common.{◌≡◌, ◌⊎◌, ◌<◌, ◌+◌, ◌++◌, ℕ, ℤ, List, [], ◌∷◌, map, drop, take, Option, Some, None, ap, refl, sym, subst, ◌∙◌, inl, inr}
-pub use Rattle.std.proofs.lemmas.Option.{same_Some as some_is}
+use Rattle.std.proofs.lemmas.Option.{same_Some}
 use Rattle.std.proofs.lemmas.Bool.{cases_order}
 use Rattle.std.proofs.lemmas.List.{map-append}
 use Rattle.std.specs.Option.{option_map}
@@ -17,7 +17,7 @@ use Rattle.settled_alike.proofs.Told.{head_is, tail_is}
 
 -- ---- a path moves to one path
 one_target : (targets : Targets) (path : List ℤ) (n m : ℕ) (target other : List ℤ) → n ≡ m → targets (take n path) ≡ Some target → targets (take m path) ≡ Some other → target ≡ other
-one_target targets path n m target other same is are = some_is target other (sym is ∙ ap (λ k. targets (take k path)) same ∙ are)
+one_target targets path n m target other same is are = same_Some target other (sym is ∙ ap (λ k. targets (take k path)) same ∙ are)
 
 moves_to_one : (targets : Targets) (path : List ℤ) (a b : Option (List ℤ)) → MovesTo targets path a → MovesTo targets path b → a ≡ b
 moves_to_one targets path None None stays rests = refl
@@ -38,7 +38,7 @@ location_alike i j place None None es ds same none nil = ap (map change_of) (non
 location_alike i j place None (Some b) es ds same none put = absurd (cc same)
 location_alike i j place (Some a) None es ds same put none = absurd (cc same)
 location_alike i j place (Some a) (Some b) es ds same (path, items, single) (way, things, sole) =
-    let e : path.items ≡ way.items = items ∙ some_is a b same ∙ sym things in
+    let e : path.items ≡ way.items = items ∙ same_Some a b same ∙ sym things in
     let change : List ℤ → List Change = λ p. path_put (place_32 place) p ∷ [] in
     ap (map change_of) single ∙ ap change e ∙ sym (ap (map change_of) sole)
 
