@@ -10,5 +10,6 @@ mod AnyFields
 mod Anys
 mod Rounds
 mod Unset
+mod OneView
 pub mod Printed
 mod Back

@@ -84,3 +84,12 @@ pub fn printed_messages_are_taken()
         → (z : Text) → IsMessageText options m z
         → ((fs : Fields) → IsText z fs → CannotMake d (Unfit fs)) → ⊥ }
 {}
+
+/// Bytes of a type are seen as one message at most, whatever numbers they are: so they can be
+/// decoded as the laws of expansions ask (`DecodesIn`).
+pub fn bytes_are_seen_as_one_message()
+    ensures { (d e : MessageDescriptor) → IsSound d.pool.now
+        → d.pool.now ≡ e.pool.now → d.index ≡ e.index → (bytes : List ℕ) (m n : DynamicMessage)
+        → m.descriptor ≡ d → n.descriptor ≡ e → IsSpelled d bytes m → IsSpelled e bytes n
+        → view m ≡ view n }
+{}
