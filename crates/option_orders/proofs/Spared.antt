@@ -43,7 +43,7 @@ module _ (w : Schema) (leads : Leads) (t : Name) (k : ℕ) where
       got_elsewhere (w.types t) sets.0 k sets.1 sets.1.label sets.2 old new (other_number part sets.0 spares sets.3) none sets.6
   parts_spare o zero (part ∷ next ∷ parts) old new path spares sets none = absurd sets
   parts_spare o (suc levels) (part ∷ next ∷ parts) old new path spares sets none =
-      ap (λ (m : Message). m k) sets.11 ∙ assigned_elsewhere (w.types t) sets.0 k (content (message sets.4)) old (other_number part sets.0 spares sets.6) none
+      ap (λ (m : Message). m k) sets.6 ∙ assigned_elsewhere (w.types t) sets.0 k (content (message sets.3)) old (other_number part sets.0 spares sets.2.led) none
 
   pub all_spare : (os : List OptionContent) (old new : Message) (paths : List (List ℤ)) → AllByRecursion (λ (o : OptionContent). Spares leads t k o.name) os
       → SetsAll w leads t os old new paths → old k ≡ absent → new k ≡ absent
