@@ -116,7 +116,7 @@ module _ (p : PoolType) (sound : IsSound p) (decoded : Name → List ℕ → Opt
         let same : s.0 ≡ m = one_meaning (types_of p) t nothing bytes s.0 m s.1 means in
         let suits = merged_well (types_of p) (defaults p sound) t nothing m bytes (nothing_typed 100 (types_of p) t) means in
         subst (λ z. Gives w t z m) (sym (s.2 ∙ ap (λ x. compact (printed own_form w t x)) same))
-        (printed_text_back own_form (record { set = refl; unexpanded = refl }) w (have_names p sound named decoded) (have_identifiers p sound named decoded) t m suits plain shallow)
+        (printed_text_back own_form w (have_names p sound named decoded) (have_identifiers p sound named decoded) (λ e. absurd (cc e)) t m suits plain (λ e. absurd (cc e)) shallow)
 
     pub back : (out again : List ℕ) → Recoded p name bytes out → Encoded p name text again → again ≡ out
     back out again recoded encodes =
