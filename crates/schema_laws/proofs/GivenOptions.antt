@@ -1,28 +1,17 @@
 -- Options of the files that sources are, and of those of a set.
-use Rattle.std.proofs.Common.{ℕ, List, [], ◌∷◌, map, subst}
-use Rattle.std.specs.List.{AllByRecursion}
+use Rattle.std.proofs.Common.{ℕ, List, map}
 use Rattle.descriptor_records.specs.Content.{file_view}
 use Rattle.descriptor_records.specs.declared.file.FileDescriptorProto.{FileDescriptorProto}
-use Rattle.codec_laws.specs.Plain as records
-use Rattle.codec_laws.proofs.Said.{set_says}
-use Rattle.plain_records.specs.PlainRecords.{ArePlainFiles, IsInside}
+use Rattle.plain_records.specs.PlainRecords.{ArePlainFiles}
 use Rattle.plain_records.specs.SaidOptions.{SaysItsBytes}
 use Rattle.plain_records.specs.SourceOptions.{AreOfSource}
 use Rattle.plain_records.proofs.Both.{files_weaker}
-use Rattle.plain_records.proofs.Contents.{file_to}
 use Rattle.reflect_bytes.specs.Spelled.{SpellsSet}
 use Rattle.stored_options.specs.CopiedOptions.{ReadsItsBytes}
 use Rattle.stored_options.proofs.Copied.{set_reads, source_reads}
 use Rattle.schema_core.specs.Refusals.{AreFilesOf}
 use Rattle.schema_laws.proofs.MadeOf.{options_of}
-
--- those of a set say what their bytes do
-pub set_options : (bytes : List ℕ) (files : List FileDescriptorProto) → SpellsSet bytes files → ArePlainFiles SaysItsBytes (map file_view files)
-set_options bytes files (s, means, are) = subst (λ fs. ArePlainFiles SaysItsBytes (map file_view fs)) are (each s.file.items (set_says bytes s means))
-  where
-    each : (fs : List FileDescriptorProto) → AllByRecursion (IsInside records.IsPlainFile 100) fs → ArePlainFiles SaysItsBytes (map file_view fs)
-    each [] all = tt
-    each (f ∷ fs) all = (file_to 99 f all.0.1, each fs all.1)
+use Rattle.schema_laws.proofs.PlainRecords.{set_options}
 
 -- of both linking reads what their bytes say
 pub sources_read : (sources : List (List ℕ × List ℕ)) (files : List FileDescriptorProto) → AreFilesOf sources files → ArePlainFiles ReadsItsBytes (map file_view files)

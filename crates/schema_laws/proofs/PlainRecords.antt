@@ -35,15 +35,16 @@ of_sources [] (f ∷ fs) h = absurd h
 of_sources (s ∷ ss) [] h = tt
 of_sources (s ∷ ss) (f ∷ fs) h = (source_plain s.0 s.1 f h.0, of_sources ss fs h.1)
 
--- and so have those of a set
-of_set : (bytes : List ℕ) (files : List FileDescriptorProto) → SpellsSet bytes files → ArePlainFiles SaysOrWaits (map file_view files)
-of_set bytes files (s, means, are) =
-    subst (λ fs. ArePlainFiles SaysOrWaits (map file_view fs)) are
-    (files_weaker SaysItsBytes SaysOrWaits (λ kind o says. inl says) (map file_view s.file.items) (each s.file.items (set_says bytes s means)))
+-- and so have those of a set: they say what their bytes do
+pub set_options : (bytes : List ℕ) (files : List FileDescriptorProto) → SpellsSet bytes files → ArePlainFiles SaysItsBytes (map file_view files)
+set_options bytes files (s, means, are) = subst (λ fs. ArePlainFiles SaysItsBytes (map file_view fs)) are (each s.file.items (set_says bytes s means))
   where
     each : (fs : List FileDescriptorProto) → AllByRecursion (IsInside records.IsPlainFile 100) fs → ArePlainFiles SaysItsBytes (map file_view fs)
     each [] all = tt
     each (f ∷ fs) all = (file_to 99 f all.0.1, each fs all.1)
+
+of_set : (bytes : List ℕ) (files : List FileDescriptorProto) → SpellsSet bytes files → ArePlainFiles SaysOrWaits (map file_view files)
+of_set bytes files spells = files_weaker SaysItsBytes SaysOrWaits (λ kind o says. inl says) (map file_view files) (set_options bytes files spells)
 
 -- a pool has as many files as records
 as_many : (p : PoolType) → p.files ≡ map record_file p.records → length p.files ≡ length p.records
