@@ -163,7 +163,7 @@ module _ (P Q : OptionScope → OptionsContent → Type 0)
       weak_dependency = h.weak_dependency;
     }
 
-    typed_says : (files typed : List FileDescriptorProto)
+    pub typed_says : (files typed : List FileDescriptorProto)
         → ArePlainFiles P (map file_view files) → TypedFiles files typed
         → ArePlainFiles Q (map file_view typed)
     typed_says files typed plain same = subst (ArePlainFiles Q) (sym same)
