@@ -2,7 +2,7 @@
 use Rattle.std.proofs.Common.{◌≡◌, ◌∙◌, ℕ, List, [], ◌∷◌, Bool, true, map, None, Some, Option, cond, not, ap, refl, sym, subst}
 use Rattle.std.proofs.Math.Path.{fun_ext}
 use Rattle.std.specs.List.{filter}
-use Rattle.std.specs.Prelude.{is_some, string_bytes}
+use Rattle.std.specs.Prelude.{is_some, option_map, string_bytes}
 use Rattle.descriptor_records.specs.Content.{FileContent, file_view}
 use Rattle.descriptor_records.specs.declared.file.FileDescriptorProto.{FileDescriptorProto}
 use Rattle.linked_names.specs.SourcePools.{IsSourcePool}
@@ -37,7 +37,8 @@ abbrev lacks : Indexes → FileContent → Bool
 lacks indexes f = elim f.name [ None ↦ true | Some n ↦ not (is_some (indexes n)) ]
 
 lacked : (indexes : Indexes) (f : FileDescriptorProto) → is_unknown indexes f ≡ lacks indexes (file_view f)
-lacked indexes f = elim f.name [ None ↦ refl | Some n ↦ refl ]
+lacked indexes f = elim f.name as (λ o. elim o [ None ↦ true | Some s ↦ not (is_some (indexes (string_bytes s))) ] ≡ elim (option_map string_bytes o) [ None ↦ true | Some n ↦ not (is_some (indexes n)) ])
+    [ None ↦ refl | Some s ↦ refl ]
 
 new_seen : (indexes : Indexes) (fs : List FileDescriptorProto) → map file_view (new_files indexes fs) ≡ filter (lacks indexes) (map file_view fs)
 new_seen indexes fs =
@@ -135,7 +136,7 @@ pub new_batch : (old : PoolType) (new : Schema) (sources : List (List ℕ × Lis
 new_batch old new sources is linked = by linked
   where
     by : SourcesLinked old sources new.pool → (batch : List FileContent) × AreNewFilesOf old sources batch × AddsSources old new batch
-    by (files, read, (pool, (typed, copied, (adds, faultless)), settled)) =
+    by (files, read, (pool, (typed, copied, (adds, faultless)), settles, settled, bare)) =
         let batch : List FileContent = map file_view (new_files faultless.0.indexes typed) in
         let are : AreNewFilesOf old sources batch = (files, typed, faultless.0, read, copied, faultless.1, refl) in
         (batch, are, record { sources = sources; linked = linked; files = are; pool = is })
