@@ -1,6 +1,7 @@
-//! Laws of linked pools, each the contract of a function that does nothing. With `pools_are_linked`
-//! they say that a pool is sound which files were linked into, whose options were settled, and from
-//! which refused files were cut again: this gives back the pool that was there before.
+//! Laws of linked pools, each the contract of a function that does nothing. With what each pool has
+//! (`IsKept`, as `pools_are_whole` of `linked_view` says) they say that a pool is sound which files
+//! were linked into, whose options were settled, and from which refused files were cut again: this
+//! gives back the pool that was there before.
 ghost use Rattle.std.specs.Prelude.{List};
 ghost use Rattle.descriptor_records.specs.declared.file.FileDescriptorProto.{FileDescriptorProto};
 ghost use Rattle.reflect_build.specs.Accepted.{FaultlessFiles};

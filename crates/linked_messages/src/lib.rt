@@ -3,6 +3,3 @@
 #![tactic(auto)]
 
 pub mod laws;
-mod pools;
-
-pub use pools::pools_are_linked;

@@ -13,6 +13,7 @@ pub mod Resolved
 pub mod Ruled
 pub mod AtHand
 pub mod Passed
+pub mod Pools
 pub mod Taken
 pub mod Valued
 pub mod Whole

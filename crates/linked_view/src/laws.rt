@@ -163,8 +163,7 @@ pub fn accepted_files_are_lawful_alone()
 {}
 
 /// A pool without files has names as it should, and so it stays where files are accepted: what is
-/// asked of the new pool beside this its type keeps, as `pools_are_recorded` and `pools_are_linked`
-/// say.
+/// asked of the new pool beside this its type keeps, as `pools_are_whole` says.
 pub fn pools_have_names()
     ensures empty { IsWellNamed empty_pool }
     ensures kept { (old new : PoolType) (files : List FileDescriptorProto) → IsWellNamed old
@@ -314,7 +313,7 @@ pub fn accepted_files_are_added()
 
 /// A pool without files is built of no batch, and where files are accepted of one more, of those
 /// that the pool has not yet: what is asked of the new pool beside this its type keeps, as
-/// `pools_are_recorded`, `pools_are_indexed` and `pools_are_linked` say.
+/// `pools_are_whole` says.
 pub fn pools_are_built()
     ensures empty { IsBuilt [] empty_pool }
     ensures kept { (earlier : List (List FileContent)) (old new : PoolType)

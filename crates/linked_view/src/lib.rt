@@ -6,4 +6,4 @@
 pub mod laws;
 mod pools;
 
-pub use pools::{pools_are_indexed, pools_are_recorded};
+pub use pools::pools_are_whole;

@@ -1,9 +1,7 @@
 -- Which refusals the calls of a schema give.
 use Rattle.std.specs.Prelude.{◌≡◌, ◌⊎◌, ◌<◌, ◌^◌, ℕ, List, [], ◌∷◌, None, Some, Ok, Err, map, length, take, slice_get, string_bytes, codes}
 use Rattle.std.specs.Borrow.{Bor}
-use Rattle.linked_messages.specs.Kept.{IsKept}
-use Rattle.linked_view.specs.Alone.{IsRecorded}
-use Rattle.linked_view.specs.Extended.{IsIndexed}
+pub use Rattle.linked_view.specs.Pools.{IsPool}
 use Rattle.message_view.specs.Sound.{IsSound}
 use Rattle.protox_parse.specs.Answers.{IsAnswered}
 use Rattle.protox_parse.specs.Refusals.{IsRefusalOf}
@@ -113,12 +111,6 @@ abbrev pub FilesLinked : PoolType → List FileDescriptorProto → PoolType → 
 FilesLinked p files new = (linked : PoolType) × FilesFit p files linked
     × SettlesPool linked (length p.files) new × IsSettled linked new
     × (map bare_of new.records ≡ map bare_of linked.records)
-
--- what each pool has by its type
-pub record IsPool (p : PoolType) : Type 0 where
-  pub recorded : IsRecorded p
-  pub indexed : IsIndexed p
-  pub kept : IsKept p
 
 -- of files: they do not fit together, or are too many; or they fit, into a pool whose types are
 -- sound, and a type of options is none to read options by, or options of theirs are refused, at

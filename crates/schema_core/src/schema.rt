@@ -4,8 +4,7 @@ ghost use Rattle.message_view.specs.Sound.{IsSound};
 
 use crate::error::SchemaError;
 use descriptor_records::FileDescriptorProto;
-use linked_messages::pools_are_linked;
-use linked_view::{pools_are_indexed, pools_are_recorded};
+use linked_view::pools_are_whole;
 use protox_parse::parse;
 use reflect_build::BuildFiles;
 use reflect_bytes::PoolBytes;
@@ -141,9 +140,7 @@ impl Schema {
         copy_typed_options(&mut files);
         let mark = self.pool.mark();
         self.pool.build_files(self.alloc, files)?;
-        pools_are_recorded(&self.pool);
-        pools_are_indexed(&self.pool);
-        pools_are_linked(&self.pool);
+        pools_are_whole(&self.pool);
         let settled = self.pool.resolve_options(self.alloc, mark);
         if settled.is_err() {
             self.pool.cut(mark);

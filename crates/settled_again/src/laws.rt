@@ -1,6 +1,6 @@
 //! Laws of the records of pools that files were linked into and settled, each the contract of a
 //! function that does nothing. What is asked of pools beside this each pool has, as
-//! `pools_are_recorded`, `pools_are_indexed` and `pools_are_linked` say.
+//! `pools_are_whole` says.
 ghost use Rattle.std.specs.Prelude.{◌≡◌, ◌∷◌, ℕ, List, Option, Some, length, map};
 ghost use Rattle.descriptor_records.specs.Content.{FileContent, file_view};
 ghost use Rattle.descriptor_records.specs.declared.file.FileDescriptorProto.{FileDescriptorProto};

@@ -21,8 +21,7 @@ ghost use Rattle.settled_view.specs.BuiltBut.{IsBuiltBut, ChangesOptions};
 
 /// A pool without files is built of no batch. Where files are accepted and options are settled,
 /// it is built of one batch more, of those files that the pool had not yet, but for its options:
-/// what is asked of the new pool beside this its type keeps, as `pools_are_recorded`,
-/// `pools_are_indexed` and `pools_are_linked` say.
+/// what is asked of the new pool beside this its type keeps, as `pools_are_whole` says.
 pub fn settled_pools_are_built()
     ensures empty { IsBuiltBut [] empty_pool }
     ensures kept { (earlier : List (List FileContent)) (old linked new : PoolType)

@@ -1,6 +1,5 @@
 //! Laws of the records that a pool's messages have, each the contract of a function that does
-//! nothing. What is asked of pools beside this each pool has, as `pools_are_recorded`,
-//! `pools_are_indexed` and `pools_are_linked` say.
+//! nothing. What is asked of pools beside this each pool has, as `pools_are_whole` says.
 ghost use Rattle.std.specs.Prelude.{◌≡◌, ℕ, List, map};
 ghost use Rattle.descriptor_records.specs.Content.{file_view};
 ghost use Rattle.descriptor_records.specs.declared.file.FileDescriptorProto.{FileDescriptorProto};

@@ -20,8 +20,8 @@ ghost use Rattle.types_view.specs.Fields.{TellsFields};
 ghost use Rattle.types_view.specs.Typed.{IsTyped};
 
 /// A pool without files tells of the fields that its records declare, and so it stays where files
-/// are accepted: what is asked of the new pool beside this its type keeps, as `pools_are_indexed`
-/// and `pools_are_linked` say.
+/// are accepted: what is asked of the new pool beside this its type keeps, as `pools_are_whole`
+/// says.
 pub fn pools_tell_of_fields()
     ensures empty { TellsFields empty_pool }
     ensures kept { (old new : PoolType) (files : List FileDescriptorProto) → IsWellNamed old

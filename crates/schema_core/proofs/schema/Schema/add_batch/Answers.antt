@@ -27,11 +27,7 @@ returns-in_err-settled-clause-err c =
     let e = c.in_err-settled.field-0.0 in
     let from_mark = subst (λ s. IfErr s (λ f. UnlessMemory (RefusesFrom linked c.mark-mark.result (option_place f)) f.kind)) c.in_err-settled.was c.resolve_options-settled.ensures.refused in
     let refused = subst (λ n. UnlessMemory (RefusesFrom linked n (option_place e)) e.kind) c.mark-mark.ensures from_mark in
-    let pool : IsPool linked = record {
-      recorded = c.pools_are_recorded.ensures;
-      indexed = c.pools_are_indexed.ensures;
-      kept = c.pools_are_linked.ensures;
-    } in
+    let pool : IsPool linked = c.pools_are_whole.ensures in
     let sound = accepted_sound old linked c.copy_typed_options.new.files.items c.args.self.now.sound pool.kept c.in_ok-build_files.ensures.accepted in
     rw (p.1, p.2) (refused_options old c.args.files.items linked e e.kind refl fit pool sound refused)
 
@@ -51,5 +47,5 @@ invariant_of-self-else-is_err c =
     let settled = c.resolve_options-settled in
     let accepted = c.in_ok-build_files.ensures.accepted in
     let sound = accepted_sound c.args.self.now.pool linked c.copy_typed_options.new.files.items
-    c.args.self.now.sound c.pools_are_linked.ensures accepted in
+    c.args.self.now.sound c.pools_are_whole.ensures.kept accepted in
     record { sound = settled_sound linked settled.new.self settled.ensures.settled sound }

@@ -1,5 +1,5 @@
 -- Whoever lends a pool owns its parts, and with each part goes what the part's type says of it.
-use Rattle.std.proofs.Common.{◌≡◌, ◌∙◌, ◌<◌, ℕ, List, [], ◌∷◌, Some, map, length, suc, refl, sym, ap, subst, w32, arith}
+use Rattle.std.proofs.Common.{◌≡◌, ◌∙◌, ◌<◌, ℕ, List, [], ◌∷◌, Some, map, length, suc, slice_get, refl, sym, ap, subst, w32, arith}
 use Rattle.std.specs.List.{AllByRecursion}
 use Rattle.std.specs.Prelude.{FitsSigned}
 use Rattle.std.proofs.raw_atomic.Walks.{proved}
@@ -26,7 +26,8 @@ use Rattle.reflect_tables.specs.contracts.stored.StoredValue as value
 use Rattle.reflect_tables.specs.contracts.tables.Tables as tables
 use Rattle.reflect_tables.specs.declared.stored.StoredEnum.{StoredEnum}
 use Rattle.reflect_tables.specs.declared.stored.StoredValue.{StoredValue}
-use Rattle.reflect_tables.specs.ExtensionNumbers.{Numbers, numbers_of}
+use Rattle.reflect_tables.specs.ExtensionNumbers.{KeyType, Numbers, numbers_of}
+use Rattle.reflect_tables.specs.Names.{AreNamed, names_of}
 use Rattle.reflect_tables.specs.Types.{PoolType, ValueType, extension_at, no_extension}
 use Rattle.reflect_scope.specs.Known.{known_of}
 use Rattle.reflect_tables.specs.Views.{enum_of, value_of, pool_of}
@@ -37,9 +38,12 @@ use Rattle.reflect_pool.specs.contracts.pool.DescriptorPool as pool
 use Rattle.reflect_pool.specs.contracts.pool.DescriptorPool.TheInside as inside
 use Rattle.message_view.specs.Sound.{HasNumbers}
 use Rattle.linked_messages.specs.Kept.{ExtensionsAreApart, IsKept}
-use Rattle.linked_messages.specs.contracts.pools.pools_are_linked as f
-use Rattle.linked_messages.proofs.pools.pools_are_linked.Statement.{statement}
-use Rattle.linked_messages.proofs.pools.pools_are_linked.Code as code
+use Rattle.linked_view.specs.Alone.{IsRecorded}
+use Rattle.linked_view.specs.Extended.{IsIndexed}
+use Rattle.linked_view.specs.Pools.{IsPool}
+use Rattle.linked_view.specs.contracts.pools.pools_are_whole as f
+use Rattle.linked_view.proofs.pools.pools_are_whole.Statement.{statement}
+use Rattle.linked_view.proofs.pools.pools_are_whole.Code as code
 
 abbrev value_known : Known value.the_row
 value_known = declared_known value.the_type
@@ -115,6 +119,22 @@ apart p numbers h j k lt less to number =
     λ i. (to i, number i) in
     let one : Some j ≡ Some k = sym (at j lt) ∙ ap numbers same ∙ at k less in cc one
 
+one_place : (numbers : Numbers) (keys : List KeyType) → AreNumbered numbers keys → (k : KeyType)
+    (i j : ℕ) → slice_get keys i ≡ Some k → slice_get keys j ≡ Some k → i ≡ j
+one_place numbers keys h k i j e f =
+    let same : Some i ≡ Some j = sym ((h k i).1 e) ∙ (h k j).1 f in cc same
+
+recorded : (p : PoolType) → pool_known.Fact p → IsRecorded p
+recorded p (a, (view, linked), known) =
+    subst IsRecorded view (record { headers = linked.headers; imports = linked.imports })
+
+indexed : (p : PoolType) → pool_known.Fact p → IsIndexed p
+indexed p (a, (view, linked), known) =
+    subst IsIndexed view (record {
+      named = subst (λ k. AreNamed k (names_of (pool_of a.tables))) linked.known linked.named;
+      numbers = one_place (numbers_of a.extension_numbers) (map key_of (pool_of a.tables).extensions) linked.numbers;
+    })
+
 kept : (p : PoolType) → pool_known.Fact p → IsKept p
 kept p (a, (view, linked), known) =
     subst IsKept view (record {
@@ -126,11 +146,14 @@ kept p (a, (view, linked), known) =
       extensions = apart (pool_of a.tables) (numbers_of a.extension_numbers) linked.numbers;
     })
 
+whole : (p : PoolType) → pool_known.Fact p → IsPool p
+whole p known = record { recorded = recorded p known; indexed = indexed p known; kept = kept p known }
+
 abbrev stayed : Stays f.ended.signature.params f.ended.kept
 stayed = (stay_dropped _ yes, tt)
 
-pub pools_are_linked_spec : {M : Type 1} → statement M
-pools_are_linked_spec {M = M} 𝓤 𝓛 𝓜 𝓡 wired =
+pub pools_are_whole_spec : {M : Type 1} → statement M
+pools_are_whole_spec {M = M} 𝓤 𝓛 𝓜 𝓡 wired =
     let c = f.clauses 𝓛 𝓜.mem 𝓡.returns in
     proved 𝓛 f.ended stayed c 𝓜 𝓡 (
       Goes-dropped 𝓛 1 (shr_ref_to (0 ∷ []) tt (plain (λ _. pool.the_row))) yes (λ κs x w. refl),
@@ -149,6 +172,6 @@ pools_are_linked_spec {M = M} 𝓤 𝓛 𝓜 𝓡 wired =
     keep ! (1 ∷ []) $ enter ! _ _ _ _ _ $ alloc_all ! (λ l. pass_all ! refl ((tt, tt), tt) $
     sets ! (of_opd ! (unit_lit !)) refl (tt, tt) $ returns ! (look_at ! 0 refl) $ free_all ! refl $
     suffices ! _ (ends_at 𝓛 f.ended stayed c ((κs, qs, bounds, a, (vs, tt)), tt) vunit tt (tt, tt)
-    (tt, tt)) $ says ! (kept a.0.now known) $
+    (tt, tt)) $ says ! (whole a.0.now known) $
     nothing ! $ move ! (1 ∷ 0 ∷ []) $ join ! $ frame ! $ nothing ! $ nothing ! $ join ! $ frame !
     $ feq_i ! _ (vunit ∷ []) _ refl $ done !)))
