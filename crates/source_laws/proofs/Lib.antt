@@ -1,8 +1,11 @@
 pub mod DeclaredTypes
 pub mod Depth
+pub mod Faultless
+pub mod FaultlessTypes
 pub mod FileRules
 pub mod Giving
 pub mod Lists
+pub mod LoneLists
 pub mod MessageRules
 pub mod NameRules
 pub mod NamedFields

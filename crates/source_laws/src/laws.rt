@@ -9,6 +9,7 @@ ghost use Rattle.protox_lex.specs.Class.{Text};
 ghost use Rattle.protox_parse.specs.Answers.{IsAnswered};
 ghost use Rattle.protox_tree.specs.FileTree.{File};
 ghost use Rattle.source_laws.specs.TreeNames.{HasIdentifiers};
+ghost use Rattle.source_records.specs.LoneLists.{GivesLoneLists};
 ghost use Rattle.source_records.specs.SourceNames.{IsSourceFile};
 ghost use Rattle.std.specs.Prelude.{Ok};
 
@@ -21,6 +22,12 @@ pub fn trees_of_sources_have_identifiers()
 pub fn records_of_sources_have_source_names()
     ensures { (name z : Text) (made : FileDescriptorProto) → IsAnswered name z (Ok made)
         → IsSourceFile (file_view made) }
+{}
+
+/// In the record of a source no list is a member of a oneof.
+pub fn records_of_sources_have_lone_lists()
+    ensures { (name z : Text) (made : FileDescriptorProto)
+        → IsAnswered name z (Ok made) → GivesLoneLists (file_view made) }
 {}
 
 /// The record of a source is one that bytes can say, but for options that are left to settle.

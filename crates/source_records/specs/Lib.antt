@@ -1,1 +1,2 @@
+pub mod LoneLists
 pub mod SourceNames
