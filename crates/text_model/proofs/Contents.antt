@@ -102,9 +102,9 @@ module _ (form : Form) (w : Schema) (inner : Inner) (typed : Name → Message �
           let same : q ≡ 1 = grind (arith, e) in
           absurd (true_false (rival (w.types t) 2 1) (subst (λ q. rival (w.types t) 2 q ≡ true) same r) type.apart)
 
-    key_given : (v : Single) → Suits key.kind v → AreBytes v → (g : ℕ → Field → Option Message) → ((o : Option ℕ) (e : Bool) → g 1 (record { part = key_part key; label = one; oneof = o; extension = e }) ≡ set_one (w.types t) 1 (key_part key) nothing (single v))
+    key_given : (v : Single) (g : ℕ → Field → Option Message) → ((o : Option ℕ) (e : Bool) → g 1 (record { part = key_part key; label = one; oneof = o; extension = e }) ≡ set_one (w.types t) 1 (key_part key) nothing (single v))
         → with_field (shape_of w t) ((w.names t).field (codes "key")) g ≡ Some (with_key v)
-    key_given v h b g each =
+    key_given v g each =
         ap (λ o. with_field (shape_of w t) o g) type.key_named
         ∙ ap (option_and_then (g 1)) type.holds_key.2
         ∙ each type.holds_key.0 type.holds_key.1
@@ -125,7 +125,7 @@ module _ (form : Form) (w : Schema) (inner : Inner) (typed : Name → Message �
         → value_content w (of_message (shape_of w t)) (printed_entry (between form.pretty) (printed_single name v) (printed_content form w inner name k c)) ≡ Some (message (entry_message v c))
     entry_back v c h b i q =
         ap (λ y. option_map message (option_and_then (λ x. option_and_then (λ z. Some z) (with_field (shape_of w t) ((w.names t).field (codes "value")) (field_value w (shape_of w t) (printed_content form w inner name k c) x))) y))
-        (key_given v h b (field_value w (shape_of w t) (one_scalar (printed_single name v)) nothing) (λ o e. ap (option_and_then (set_one (w.types t) 1 (key_part key) nothing)) (key_read v h b)))
+        (key_given v (field_value w (shape_of w t) (one_scalar (printed_single name v)) nothing) (λ o e. ap (option_and_then (set_one (w.types t) 1 (key_part key) nothing)) (key_read v h b)))
         ∙ ap (λ y. option_map message (option_and_then (λ z. Some z) y)) (value_given v c i q)
 
     abbrev messages : Entries → List Content

@@ -1,11 +1,10 @@
 -- Decimal digits and identifiers before a text that does not lengthen them.
-use Rattle.std.proofs.Common.{◌≡◌, inl, inr, ℕ, zero, suc, ◌+◌, ◌<◌, ◌^◌, Bool, true, false, [], ◌∷◌, ◌++◌, length, take, decimal, Ok, nat_lt, refl, ap, sym, subst, ◌∙◌, arith, get_or}
+use Rattle.std.proofs.Common.{◌≡◌, ℕ, zero, suc, ◌+◌, ◌<◌, ◌^◌, Bool, true, false, [], ◌∷◌, ◌++◌, length, take, decimal, Ok, refl, ap, sym, subst, ◌∙◌, arith, get_or}
 use Rattle.std.specs.Prelude.{◌&&◌, ◌||◌, not, ◌==◌, slice_index, nat_le, if◌then◌else◌}
 use Rattle.std.specs.List.{list_all, prefix_len}
 use Rattle.std.specs.Char.{is_ascii_uppercase, is_ascii_lowercase, is_ascii_digit}
 use Rattle.std.specs.Str.Parse.{AllDigits}
-use Rattle.std.proofs.lemmas.Bool.Decides.{eqb_tells}
-use Rattle.std.proofs.lemmas.Bool.{ltb-true, leb-true, eqb-true, le-leb, and_from, and_parts, or_parts, agree_below, agree_below_at}
+use Rattle.std.proofs.lemmas.Bool.{leb-true, eqb-true, le-leb, le-ltb, false_from_ne_true, ne_eqb, not-false, true≢false, and_from, and_parts, or_parts, agree_below, agree_below_at}
 use Rattle.std.proofs.lemmas.Fmt.{decimal_is_IsNumeral, first_decimal, decimal_digit}
 use Rattle.std.proofs.lemmas.Str.Parse.{digit_from_value}
 use Rattle.protox_lex.specs.Class.{Text, is_in, past}
@@ -20,7 +19,7 @@ use Rattle.text_lex.specs.Lex.{front, as_text, int_of}
 use Rattle.text_lex.specs.Token.{int, token}
 use Rattle.text_lex.specs.declared.token.Radix.TheVariants as radix
 use Rattle.text_lex.proofs.Integers.{int_decimal}
-use Rattle.text_model.proofs.Leaves.{ends_number}
+use Rattle.text_model.proofs.Leaves.{apart_by, ends_number}
 use Rattle.text_model.proofs.Singles.{decimal_value}
 
 -- bytes of one class are not of another
@@ -52,27 +51,17 @@ record IsDigit (b : ℕ) : Type 0 where
   letter : is_in class.Letter b ≡ false
   word : is_in class.Word b ≡ true
 
-not_false : (t : Bool) → not t ≡ false → t ≡ true
-not_false true h = refl
-not_false false h = cc
-
 digit_is : (b : ℕ) → is_in class.Digit b ≡ true → IsDigit b
 digit_is b h =
     let other = agree_below_at (λ b. is_in class.Digit b && ((is_in class.Blank b || is_in class.Letter b) || not (is_in class.Word b))) (λ b. false) 58 b no_digit_other (digit_small b h) in
     let none : ((is_in class.Blank b || is_in class.Letter b) || not (is_in class.Word b)) ≡ false = ap (λ t. t && ((is_in class.Blank b || is_in class.Letter b) || not (is_in class.Word b))) (sym h) ∙ other in
     let p = or_parts (is_in class.Blank b || is_in class.Letter b) (not (is_in class.Word b)) none in
     let q = or_parts (is_in class.Blank b) (is_in class.Letter b) p.0 in
-    record { blank = q.0; letter = q.1; word = not_false (is_in class.Word b) p.1 }
+    record { blank = q.0; letter = q.1; word = not-false (is_in class.Word b) p.1 }
 
 -- a letter is no digit
 pub letter_no_digit : (b : ℕ) → is_in class.Letter b ≡ true → is_in class.Digit b ≡ false
-letter_no_digit b h = by (is_in class.Digit b) refl where
-  by : (t : Bool) → is_in class.Digit b ≡ t → t ≡ false
-  by false e = refl
-  by true e = absurd (let x : true ≡ false = sym h ∙ (digit_is b e).letter in cc)
-
-digit_not : (b k : ℕ) → is_in class.Digit k ≡ false → is_in class.Digit b ≡ true → (b == k) ≡ false
-digit_not b k other h = elim (eqb_tells b k) [ inl e ↦ absurd (let x : true ≡ false = sym h ∙ ap (is_in class.Digit) e.1 ∙ other in cc) | inr e ↦ e.0 ]
+letter_no_digit b h = false_from_ne_true (is_in class.Digit b) (λ e. true≢false (sym h ∙ (digit_is b e).letter))
 
 all_digits : (ds : Text) → AllDigits 10 ds → list_all (is_in class.Digit) ds ≡ true
 all_digits [] h = refl
@@ -113,12 +102,6 @@ ended : (P : ℕ → Bool) → ((c : ℕ) → P c ≡ true → (is_in class.Word
 ended P sub none [] h = refl
 ended P sub none (c ∷ z) h = rw (ends_by P sub none [] (c ∷ z) h) refl
 
-not_less : (n : ℕ) → nat_lt n n ≡ false
-not_less n = by (nat_lt n n) refl where
-  by : (b : Bool) → nat_lt n n ≡ b → b ≡ false
-  by false e = refl
-  by true e = absurd (let x = ltb-true n n e in omega arith)
-
 -- digits that do not begin with a zero
 number_is : (b : ℕ) (d z : Text) → (b == 48) ≡ false → past class.Digit ((b ∷ d) ++ z) 0 ≡ length (b ∷ d) → ends_number z ≡ true
     → number ((b ∷ d) ++ z) ≡ integer ((b ∷ d) ++ z) 0 (length (b ∷ d)) (short (value 10 (take (length (b ∷ d)) ((b ∷ d) ++ z))))
@@ -129,7 +112,7 @@ number_is b d z first run h =
     let large = ends_by (λ c. c == 69) (is_one 69 refl) refl (b ∷ d) z h in
     let f = ends_by (λ c. c == 102) (is_one 102 refl) refl (b ∷ d) z h in
     let g = ends_by (λ c. c == 70) (is_one 70 refl) refl (b ∷ d) z h in
-    rw (first, run, point, small, large, not_less (length (b ∷ d)), f, g) refl
+    rw (first, run, point, small, large, le-ltb (length (b ∷ d)) (length (b ∷ d)) (omega arith), f, g) refl
 
 integer_is : (z : Text) (n : ℕ) (v : ℕ) → is_in class.Letter (slice_index z n) ≡ false → v < 2 ^ 64 → integer z 0 n (short v) ≡ Ok (sources.token (sources.int v), n)
 integer_is z n v letter small =
@@ -146,7 +129,7 @@ digits_front at b d z first all small h =
     let read : number ((b ∷ d) ++ z) ≡ Ok (sources.token (sources.int (value 10 (b ∷ d))), length (b ∷ d)) =
     number_is b d z first run h ∙ ap (λ t. integer ((b ∷ d) ++ z) 0 (length (b ∷ d)) (short (value 10 t))) front_text
     ∙ integer_is ((b ∷ d) ++ z) (length (b ∷ d)) (value 10 (b ∷ d)) (ends_by (is_in class.Letter) letter_in_word refl (b ∷ d) z h) small in
-    rw (digit_not b 47 refl here, digit_not b 35 refl here, is.blank, is.letter, here)
+    rw (apart_by (is_in class.Digit) b 47 refl here, apart_by (is_in class.Digit) b 35 refl here, is.blank, is.letter, here)
     (ap (as_text at ((b ∷ d) ++ z)) read
     ∙ ap (λ t. Ok (token (int_of t), length (b ∷ d))) front_text
     ∙ ap (λ t. Ok (token t, length (b ∷ d))) (int_decimal (b ∷ d) first)) where
@@ -184,6 +167,6 @@ decimal_front at (suc n) z small h = by (decimal (suc n)) refl where
   by [] e = absurd (let k = (decimal_is_IsNumeral (suc n) small).0.0 in omega (arith, ap length e))
   by (b ∷ d) e =
       digits_front at b d z
-      (elim (eqb_tells b 48) [ inl t ↦ absurd (let k = first_decimal (suc n) (omega arith) small in omega (arith, ap (λ ds. get_or ds 0 0) e, t.1)) | inr t ↦ t.0 ])
+      (ne_eqb b 48 (λ t. let k = first_decimal (suc n) (omega arith) small in omega (arith, ap (λ ds. get_or ds 0 0) e, t)))
       (all_digits (b ∷ d) (subst (AllDigits 10) e (decimal_is_IsNumeral (suc n) small).0.1))
       (let k = decimal_value (suc n) small in omega (arith, ap (value 10) e)) h

@@ -4,7 +4,9 @@ use Rattle.std.specs.Char.{encode_utf8}
 use Rattle.std.specs.Fmt.{digits}
 use Rattle.std.specs.Str.{is_utf8, chars}
 use Rattle.std.specs.List.{flat_map, filter}
+use Rattle.std.proofs.lemmas.Bool.{ne_eqb}
 use Rattle.std.proofs.lemmas.Bool.Decides.{eqb_tells}
+use Rattle.std.proofs.lemmas.Grind.{flat_map-append}
 use Rattle.protox_lex.specs.Class.{Text}
 use Rattle.protox_lex.specs.Lex.{unescaped_from, escape, hex}
 use Rattle.text_lex.specs.declared.token.Radix.TheVariants as radix
@@ -24,7 +26,7 @@ use Rattle.text_model.specs.Printed.{Inner, joined, lacks_presence, default_give
 use Rattle.text_model.specs.Identifiers.{is_identifier, is_full_name, AreIdentifiers}
 use Rattle.text_model.specs.Forms.{Form, between}
 use Rattle.text_model.specs.Rendered.{compact, pretty, text_of}
-use Rattle.text_model.proofs.Numbers.{first_few, of_those, over_both, any_there}
+use Rattle.text_model.proofs.Numbers.{first_few, of_those, any_there}
 use Rattle.text_model.proofs.Orders.{in_numbers}
 use Rattle.text_model.proofs.Rivals.{no_rival}
 
@@ -198,7 +200,7 @@ abbrev m_message : Message
 m_message = λ n. cond (n == 1) (content (single (int32 (pos 150)))) (cond (n == 3) (content (message n_message)) absent)
 
 pub other_number : (n q : ℕ) → q < n → (n == q) ≡ false
-other_number n q h = elim (eqb_tells n q) [ inl e ↦ absurd (omega (arith, e.1)) | inr e ↦ e.0 ]
+other_number n q h = ne_eqb n q (λ e. omega (arith, e))
 
 -- in this form, and in one that expands
 abbrev plainly : Form
@@ -225,7 +227,7 @@ module _ (form : Form) (set : form.defaults ≡ false) (by_number : form.as_decl
       let declared = λ (n : ℕ). is_declared (types t n) in
       let none : (b : Bool) (n : ℕ) → 3 < n → cond b (held t m n) [] ≡ [] = λ b n l. ap (λ xs. cond b xs []) (none_held t m n (h n l)) ∙ both b in
       ap (λ b. flat_map (held t m) (cond b [] (filter declared field_numbers) ++ filter (λ n. not (declared n)) field_numbers)) by_number
-      ∙ over_both (held t m) (filter declared field_numbers) (filter (λ n. not (declared n)) field_numbers)
+      ∙ flat_map-append (held t m) (filter declared field_numbers) (filter (λ n. not (declared n)) field_numbers)
       ∙ ap (λ xs. xs ++ flat_map (held t m) (filter (λ n. not (declared n)) field_numbers)) (of_those (held t m) declared field_numbers ∙ first_few (λ n. cond (declared n) (held t m n) []) 3 (2 ^ 29 - 4) (omega arith) (λ n l. none (declared n) n l))
       ∙ ap (λ xs. flat_map (λ n. cond (declared n) (held t m n) []) (count_from 1 3) ++ xs) (of_those (held t m) (λ n. not (declared n)) field_numbers ∙ first_few (λ n. cond (not (declared n)) (held t m n) []) 3 (2 ^ 29 - 4) (omega arith) (λ n l. none (not (declared n)) n l)) where
         both : (b : Bool) → ◌≡◌ {A = List (FieldName × Given)} (cond b [] []) []

@@ -7,7 +7,7 @@ use Rattle.protobuf_model.specs.Bytes.{bytes_of}
 use Rattle.protobuf_model.specs.Typed.{IsHeldOf, IsTypedBy, IsTyped}
 use Rattle.protobuf_model.specs.Types.{Name, Field, oneof_of, rival}
 use Rattle.protobuf_model.specs.Values.{int32, single, content, Held, Message, absent, nothing}
-use Rattle.text_model.specs.Expansions.{EachSuits, HasOneForm, HoldsOneForm, IsOneForm}
+use Rattle.text_model.specs.Expansions.{EachSuits, HasOneForm, HoldsMessage, HoldsOneForm}
 use Rattle.text_model.specs.Plain.{IsPlain, IsPlainHeld}
 use Rattle.text_model.specs.Schemas.{shape_of}
 use Rattle.text_model.specs.Value.{hold}
@@ -46,7 +46,9 @@ n_plain n = by (n == 2) where
 
 n_form : (more : ℕ) → HasOneForm more schema type_n n_message
 n_form zero = n_typed (IsTyped 99 types) 100
-n_form (suc more) = ((λ is url bytes u held slash known there decoded. absurd (cc is)), n_typed (EachSuits (IsOneForm (HasOneForm more schema) schema) 99 types) 100)
+n_form (suc more) =
+    let EachHolds : Name → Message → Type 0 = λ u n. (url : Text × Text) (v : Name) (held : Message) → HoldsMessage schema u n url v held → HoldsOneForm schema u n url v held × HasOneForm more schema v held in
+    ((λ url v held holds. absurd (cc holds.any)), n_typed (EachSuits EachHolds 99 types) 100)
 
 -- its bytes are 16 66
 n_written : bytes_of types type_n n_message ≡ 16 ∷ 66 ∷ []
@@ -62,17 +64,18 @@ any_one : HoldsOneForm schema (codes "Any") any_message (codes "x.y", codes "N")
 any_one = record {
   domain = refl;
   name = refl;
+  plain = n_plain;
   small = subst (λ (b : Text). length b < 2 ^ 64) (sym n_written) (omega arith);
   alone = ap (λ b. hold (shape_of schema (codes "Any")) url b nothing) n_written;
 }
 
-pub any_form : (more : ℕ) → IsOneForm (HasOneForm more schema) schema (codes "Any") any_message
-any_form more is u bytes t held slash known there decoded =
-    let its_url : (codes "x.y", codes "N") ≡ u = ap (λ o. unwrap_or o u) slash in
-    let its_type : type_n ≡ t = ap (λ o. unwrap_or o t) (subst (λ (u : Text × Text). schema.message u.1 ≡ Some t) (sym its_url) known) in
-    let its_bytes : 16 ∷ 66 ∷ [] ≡ bytes = ap (λ o. unwrap_or o bytes) there in
-    let its_message : n_message ≡ held = ap (λ o. unwrap_or o held) (subst (λ (b : Text). schema.decoded t b ≡ Some held) (sym its_bytes) decoded) in
-    subst (λ m. HoldsOneForm schema (codes "Any") any_message u t m × IsPlain types t m × HasOneForm more schema t m) its_message
-    (subst (λ t. HoldsOneForm schema (codes "Any") any_message u t n_message × IsPlain types t n_message × HasOneForm more schema t n_message) its_type
-    (subst (λ u. HoldsOneForm schema (codes "Any") any_message u type_n n_message × IsPlain types type_n n_message × HasOneForm more schema type_n n_message) its_url
-    (any_one, n_plain, n_form more)))
+abbrev IsAsItShould : ℕ → Text × Text → Name → Message → Type 0
+IsAsItShould more u t held = HoldsOneForm schema (codes "Any") any_message u t held × HasOneForm more schema t held
+
+pub any_form : (more : ℕ) (u : Text × Text) (t : Name) (held : Message) → HoldsMessage schema (codes "Any") any_message u t held → IsAsItShould more u t held
+any_form more u t held holds =
+    let its_url : (codes "x.y", codes "N") ≡ u = ap (λ o. unwrap_or o u) holds.slash in
+    let its_type : type_n ≡ t = ap (λ o. unwrap_or o t) (subst (λ (u : Text × Text). schema.message u.1 ≡ Some t) (sym its_url) holds.known) in
+    let its_bytes : 16 ∷ 66 ∷ [] ≡ holds.bytes = ap (λ o. unwrap_or o holds.bytes) holds.there in
+    let its_message : n_message ≡ held = ap (λ o. unwrap_or o held) (subst (λ (b : Text). schema.decoded t b ≡ Some held) (sym its_bytes) holds.decoded) in
+    subst (IsAsItShould more u t) its_message (subst (λ t. IsAsItShould more u t n_message) its_type (subst (λ u. IsAsItShould more u type_n n_message) its_url (any_one, n_form more)))

@@ -38,12 +38,12 @@ expansion_back : (form : Form) (w : Schema) (inner : Inner) (t : Name) (m : Mess
 expansion_back form w inner t m fs e h back =
     ap (λ fs. value w s fs nothing) e.same
     ∙ last_value (cond (w.is_any t) (of_url written_domain written_name) None)
-    ∙ ap (λ b. cond b (of_url written_domain written_name) None) e.any
+    ∙ ap (λ b. cond b (of_url written_domain written_name) None) e.holds.any
     ∙ ap₂ of_url (parts_written e.url.0) (parts_written e.url.1)
-    ∙ ap (option_and_then (of_type e.url.0 e.url.1)) e.known
+    ∙ ap (option_and_then (of_type e.url.0 e.url.1)) e.holds.known
     ∙ ap (option_and_then (of_message e.url.0 e.url.1 e.type)) back
     ∙ ap (λ b. cond b (hold s (e.url.0 ++ 47 ∷ e.url.1) (bytes_of w.types e.type e.held) nothing) None) (lt-ltb (length (bytes_of w.types e.type e.held)) (2 ^ 64) h.small)
-    ∙ ap (λ z. hold s z (bytes_of w.types e.type e.held) nothing) (slash_whole (text_in (m 1)) e.url e.slash)
+    ∙ ap (λ z. hold s z (bytes_of w.types e.type e.held) nothing) (slash_whole (text_in (m 1)) e.url e.holds.slash)
     ∙ h.alone where
       s : Shape
       s = shape_of w t

@@ -7,7 +7,7 @@ use Rattle.protobuf_model.specs.Coded.{SuitsType}
 use Rattle.protobuf_model.specs.Typed.{IsTypedBy, IsTyped}
 use Rattle.protobuf_model.specs.Types.{Name}
 use Rattle.protobuf_model.specs.Values.{Message}
-use Rattle.text_model.specs.Expansions.{EachSuits, HasOneForm, HoldsOneForm, IsOneForm}
+use Rattle.text_model.specs.Expansions.{EachSuits, HasOneForm, HoldsMessage, HoldsOneForm}
 use Rattle.text_model.specs.Forms.{Form, between}
 use Rattle.text_model.specs.Plain.{IsPlain}
 use Rattle.text_model.specs.Printed.{Inner, bytes_in, expanded_as, held_in, in_any, joined, last_slash, or_fields, printed, printed_by, printed_fields, printed_within, text_in}
@@ -17,16 +17,11 @@ use Rattle.text_model.specs.Tree.{Fields}
 -- the fields are the expansion of an Any
 pub record IsExpansion (form : Form) (w : Schema) (inner : Inner) (t : Name) (m : Message) (fs : Fields) : Type 0 where
   pub expands : form.expands ≡ true
-  pub any : w.is_any t ≡ true
   pub url : Text × Text
-  pub bytes : Text
   pub type : Name
   pub held : Message
   pub given : Fields
-  pub slash : last_slash (text_in (m 1)) ≡ Some url
-  pub known : w.message url.1 ≡ Some type
-  pub there : bytes_in (m 2) ≡ Some bytes
-  pub decoded : w.decoded type bytes ≡ Some held
+  pub holds : HoldsMessage w t m url type held
   pub inside : inner type held ≡ Some given
   pub same : fs ≡ expanded_as url given
 
@@ -56,16 +51,11 @@ expansion_of form w inner t m fs e = by (form.expands && w.is_any t) refl where
       option_and_then_some (inner u) (w.decoded u bytes) given.0 of_type
       (λ held decoded inside. record {
         expands = both.0;
-        any = both.1;
         url = url;
-        bytes = bytes;
         type = u;
         held = held;
         given = given.0;
-        slash = slash;
-        known = known;
-        there = there;
-        decoded = decoded;
+        holds = record { any = both.1; slash = slash; known = known; bytes = bytes; there = there; decoded = decoded };
         inside = inside;
         same = given.2;
       }))))
@@ -108,11 +98,12 @@ module _ (form : Form) (w : Schema) (Holds : Name → Message → Fields → Typ
   within : (more : ℕ) (t : Name) (m : Message) → HasOneForm more w t m → IsPlain w.types t m → Holds t m (printed_within more form w t m)
   within zero t m h b = unexpanded (λ u m. None) (λ t m fs e. cc e.inside) 100 t m h b
   within (suc more) t m h b =
-      by_levels (λ u m. Some (printed_within more form w u m)) (IsOneForm (HasOneForm more w) w)
+      by_levels (λ u m. Some (printed_within more form w u m))
+      (λ u n. (url : Text × Text) (v : Name) (held : Message) → HoldsMessage w u n url v held → HoldsOneForm w u n url v held × HasOneForm more w v held)
       (λ t m one fs e.
-      let its = one e.any e.url e.bytes e.type e.held e.slash e.known e.there e.decoded in
+      let its = one e.url e.type e.held e.holds in
       expansion (λ u m. Some (printed_within more form w u m)) t m fs e its.0
-      (subst (Holds e.type e.held) (ap (λ o. unwrap_or o e.given) e.inside) (within more e.type e.held its.2 its.1)))
+      (subst (Holds e.type e.held) (ap (λ o. unwrap_or o e.given) e.inside) (within more e.type e.held its.1 its.0.plain)))
       100 t m h b
 
   -- of what is printed

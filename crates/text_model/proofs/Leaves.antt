@@ -1,18 +1,17 @@
 -- Tokens as they are written, before a text that does not lengthen them.
-use Rattle.std.proofs.Common.{◌≡◌, inl, inr, ℕ, suc, ◌+◌, ◌<◌, Bool, true, false, List, [], ◌∷◌, ◌++◌, length, take, drop, Ok, refl, ap, sym, subst, ◌∙◌, arith, length-append}
+use Rattle.std.proofs.Common.{◌≡◌, ℕ, suc, ◌+◌, ◌<◌, Bool, true, false, List, [], ◌∷◌, ◌++◌, length, take, drop, Ok, refl, ap, sym, subst, ◌∙◌, arith, length-append}
 use Rattle.std.specs.Prelude.{◌||◌, not, ◌==◌, slice_index, if◌then◌else◌}
 use Rattle.std.specs.List.{list_all, prefix_len, AllByRecursion}
-use Rattle.std.proofs.lemmas.Bool.Decides.{eqb_tells}
+use Rattle.std.proofs.lemmas.Bool.{ne_eqb, true≢false}
 use Rattle.protox_lex.specs.Class.{Text, is_in, past}
 use Rattle.protox_lex.specs.Escapes.{escaped}
 use Rattle.protox_lex.specs.Lex as source
-use Rattle.protox_lex.specs.Lex.{number, quoted, closed}
+use Rattle.protox_lex.specs.Lex.{quoted, closed}
 use Rattle.protox_lex.specs.Token as sources
 use Rattle.protox_lex.specs.declared.class.Class.TheVariants as class
-use Rattle.protox_lex.specs.declared.token.Sign.TheVariants as signs
 use Rattle.protox_lex.proofs.FloatSpelling.{run_front}
 use Rattle.text_lex.specs.Lex.{front, lexemes_from, as_text}
-use Rattle.text_lex.specs.Token.{Token, ident, str, sign, token, token_at}
+use Rattle.text_lex.specs.Token.{Token, ident, str, token, token_at}
 use Rattle.text_lex.proofs.Streams.{on_token}
 use Rattle.text_model.specs.Texts.{AreTokens}
 use Rattle.text_model.proofs.Escaping.{escaped_reach}
@@ -53,48 +52,11 @@ abbrev pub ends_number : Text → Bool
 ends_number [] = true
 ends_number (b ∷ y) = not (is_in class.Word b || b == 46)
 
--- ---- signs
-
-pub comma_front : (at : ℕ) (z : Text) → front at (44 ∷ z) ≡ Ok (token (sign 44), 1)
-unfolding front source.front
-comma_front at z = refl
-
-pub minus_front : (at : ℕ) (z : Text) → front at (45 ∷ z) ≡ Ok (token (sign 45), 1)
-unfolding front source.front
-minus_front at z = refl
-
-pub dot_front : (at : ℕ) (z : Text) → is_in class.Digit (slice_index z 0) ≡ false → front at (46 ∷ z) ≡ Ok (token (sign 46), 1)
-unfolding front source.front
-dot_front at z h = ap (λ t. as_text at (46 ∷ z) (if t then number (46 ∷ z) else Ok (sources.token (sources.sign signs.Dot), 1))) h
-
-pub slash_front : (at : ℕ) (z : Text) → front at (47 ∷ z) ≡ Ok (token (sign 47), 1)
-unfolding front
-slash_front at z = refl
-
-pub colon_front : (at : ℕ) (z : Text) → front at (58 ∷ z) ≡ Ok (token (sign 58), 1)
-unfolding front source.front
-colon_front at z = refl
-
-pub bracket_front : (at : ℕ) (z : Text) → front at (91 ∷ z) ≡ Ok (token (sign 91), 1)
-unfolding front source.front
-bracket_front at z = refl
-
-pub close_bracket_front : (at : ℕ) (z : Text) → front at (93 ∷ z) ≡ Ok (token (sign 93), 1)
-unfolding front source.front
-close_bracket_front at z = refl
-
-pub brace_front : (at : ℕ) (z : Text) → front at (123 ∷ z) ≡ Ok (token (sign 123), 1)
-unfolding front source.front
-brace_front at z = refl
-
-pub close_brace_front : (at : ℕ) (z : Text) → front at (125 ∷ z) ≡ Ok (token (sign 125), 1)
-unfolding front source.front
-close_brace_front at z = refl
-
 -- ---- words
 
-not_letter : (b k : ℕ) → is_in class.Letter k ≡ false → is_in class.Letter b ≡ true → (b == k) ≡ false
-not_letter b k other h = elim (eqb_tells b k) [ inl e ↦ absurd (let x : true ≡ false = sym h ∙ ap (is_in class.Letter) e.1 ∙ other in cc) | inr e ↦ e.0 ]
+-- a byte that passes a test is none that does not
+pub apart_by : (test : ℕ → Bool) (b k : ℕ) → test k ≡ false → test b ≡ true → (b == k) ≡ false
+apart_by test b k other h = ne_eqb b k (λ e. true≢false (sym h ∙ ap test e ∙ other))
 
 ended_run : (z : Text) → ends_word z ≡ true → prefix_len (is_in class.Word) z ≡ 0
 ended_run [] h = refl
@@ -108,7 +70,7 @@ unfolding front source.front
 word_front at b y z letter blank word ends =
     let run : prefix_len (is_in class.Word) (y ++ z) ≡ length y = run_front (is_in class.Word) y z word (ended_run z ends) in
     let n : past class.Word (b ∷ (y ++ z)) 1 ≡ length (b ∷ y) = one run in
-    rw (not_letter b 47 refl letter, not_letter b 35 refl letter, blank, letter) (ap (λ k. as_text at (b ∷ (y ++ z)) (Ok (source.word_to (b ∷ (y ++ z)) k))) n ∙ ap (λ w. Ok (token (ident w), length (b ∷ y))) (take_front (b ∷ y) z)) where
+    rw (apart_by (is_in class.Letter) b 47 refl letter, apart_by (is_in class.Letter) b 35 refl letter, blank, letter) (ap (λ k. as_text at (b ∷ (y ++ z)) (Ok (source.word_to (b ∷ (y ++ z)) k))) n ∙ ap (λ w. Ok (token (ident w), length (b ∷ y))) (take_front (b ∷ y) z)) where
       one : prefix_len (is_in class.Word) (y ++ z) ≡ length y → past class.Word (b ∷ (y ++ z)) 1 ≡ length (b ∷ y)
       one e = let x : 1 + prefix_len (is_in class.Word) (y ++ z) ≡ suc (length y) = omega arith in x
 

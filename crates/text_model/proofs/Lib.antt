@@ -16,6 +16,7 @@ mod Examples
 mod ExpandedExample
 pub mod Leaves
 pub mod Decimals
+pub mod Signs
 pub mod Written
 pub mod Pretty
 pub mod Shown

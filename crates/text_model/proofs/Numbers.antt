@@ -1,6 +1,7 @@
 -- Sums over all numbers of fields, where only the first few count.
-use Rattle.std.proofs.Common.{◌≡◌, ◌⊎◌, inl, inr, ℕ, zero, suc, ◌+◌, ◌-◌, ◌<◌, ◌≤◌, ◌^◌, ◌==◌, ◌||◌, Bool, true, false, cond, List, [], ◌∷◌, ◌++◌, refl, ap, sym, ◌∙◌, append_assoc, arith}
+use Rattle.std.proofs.Common.{◌≡◌, ◌⊎◌, inl, inr, ℕ, zero, suc, ◌+◌, ◌-◌, ◌<◌, ◌≤◌, ◌^◌, ◌==◌, ◌||◌, Bool, true, false, cond, List, [], ◌∷◌, ◌++◌, refl, ap, sym, ◌∙◌, arith}
 use Rattle.std.specs.List.{flat_map, filter, list_any}
+use Rattle.std.proofs.lemmas.Bool.{or_right}
 use Rattle.std.proofs.lemmas.Bool.Decides.{eqb_tells}
 use Rattle.text_model.proofs.Orders.{has}
 use Rattle.protobuf_model.specs.Bytes.{count_from, field_numbers}
@@ -27,20 +28,10 @@ module _ {X : Type 0} (f : ℕ → List X) where
     by true e = ap (λ xs. f n ++ xs) e
     by false e = e
 
-  pub over_both : (a b : List ℕ) → flat_map f (a ++ b) ≡ flat_map f a ++ flat_map f b
-  over_both [] b = refl
-  over_both (n ∷ a) b = ap (λ xs. f n ++ xs) (over_both a b) ∙ again (f n) (flat_map f a) (flat_map f b) where
-    again : (x y z : List X) → x ++ (y ++ z) ≡ (x ++ y) ++ z
-    again x y z = simp append_assoc
-
-or_true : (b : Bool) → (b || true) ≡ true
-or_true true = refl
-or_true false = refl
-
 -- some number passes the test where this one does
 pub any_there : (test : ℕ → Bool) (ns : List ℕ) (q : ℕ) → has ns q ≡ true → test q ≡ true → list_any test ns ≡ true
 any_there test [] q h e = cc
 any_there test (n ∷ ns) q h e = by (eqb_tells n q) (any_there test ns q) where
   by : (((n == q) ≡ true) × (n ≡ q)) ⊎ (((n == q) ≡ false) × (n ≡ q → ⊥)) → (has ns q ≡ true → test q ≡ true → list_any test ns ≡ true) → (test n || list_any test ns) ≡ true
   by (inl k) later = ap (λ b. b || list_any test ns) (ap test k.1 ∙ e)
-  by (inr k) later = ap (λ b. test n || b) (later (ap (λ b. b || has ns q) (sym k.0) ∙ h) e) ∙ or_true (test n)
+  by (inr k) later = or_right (test n) (list_any test ns) (later (ap (λ b. b || has ns q) (sym k.0) ∙ h) e)

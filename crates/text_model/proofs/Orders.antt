@@ -2,9 +2,11 @@
 use Rattle.std.proofs.Common.{◌≡◌, ◌⊎◌, inl, inr, ℕ, zero, suc, ◌+◌, ◌-◌, ◌<◌, ◌≤◌, ◌^◌, ◌==◌, ◌||◌, ◌&&◌, not, Bool, true, false, cond, List, [], ◌∷◌, ◌++◌, Option, refl, sym, ap, ◌∙◌, subst, arith}
 use Rattle.std.specs.List.{AllByRecursion, filter}
 use Rattle.std.proofs.lemmas.Bool.Decides.{eqb_tells}
-use Rattle.std.proofs.lemmas.Bool.{or_from, or_parts, not-true}
+use Rattle.std.proofs.lemmas.Bool.{and_parts, eq-eqb, or_from, or_parts, or_right, not-true}
+use mathlib.Core.Bool.{and-false, and-true, or-not_self, or_assoc}
 use Rattle.protobuf_model.specs.Types.{Field}
 use Rattle.protobuf_model.specs.Bytes.{count_from, field_numbers, is_declared}
+use Rattle.protobuf_model.proofs.Arranged.{all_append}
 use Rattle.text_model.specs.Forms.{Form}
 use Rattle.text_model.specs.Schemas.{Names}
 use Rattle.text_model.specs.Printed.{ComesBefore, IsInOrder, printing_order}
@@ -22,12 +24,8 @@ AreApart (n ∷ ns) = (has ns n ≡ false) × AreApart ns
 pub true_false : (b : Bool) → b ≡ true → b ≡ false → ⊥
 true_false b e f = let x : true ≡ false = sym e ∙ f in cc
 
-pub and_false : (b : Bool) → (b && false) ≡ false
-and_false true = refl
-and_false false = refl
-
 has_filter : (test : ℕ → Bool) (ns : List ℕ) (q : ℕ) → has (filter test ns) q ≡ (test q && has ns q)
-has_filter test [] q = sym (and_false (test q))
+has_filter test [] q = sym (and-false (test q))
 has_filter test (n ∷ ns) q = by (test n) refl (eqb_tells n q) (has_filter test ns q) where
   by : (b : Bool) → test n ≡ b → (((n == q) ≡ true) × (n ≡ q)) ⊎ (((n == q) ≡ false) × (n ≡ q → ⊥)) → has (filter test ns) q ≡ (test q && has ns q) → has (cond (test n) (n ∷ filter test ns) (filter test ns)) q ≡ (test q && ((n == q) || has ns q))
   by true e (inl h) later =
@@ -44,13 +42,12 @@ has_filter test (n ∷ ns) q = by (test n) refl (eqb_tells n q) (has_filter test
       ap (λ b. has (cond b (n ∷ filter test ns) (filter test ns)) q) e
       ∙ later ∙ sym (ap (λ b. test q && (b || has ns q)) h.0)
 
-or_through : (a b c : Bool) → (a || (b || c)) ≡ ((a || b) || c)
-or_through true b c = refl
-or_through false b c = refl
+pub has_here : (n : ℕ) (ns : List ℕ) → has (n ∷ ns) n ≡ true
+has_here n ns = ap (λ b. b || has ns n) (eq-eqb n n refl)
 
 has_append : (a b : List ℕ) (q : ℕ) → has (a ++ b) q ≡ (has a q || has b q)
 has_append [] b q = refl
-has_append (n ∷ a) b q = ap (λ t. (n == q) || t) (has_append a b q) ∙ or_through (n == q) (has a q) (has b q)
+has_append (n ∷ a) b q = ap (λ t. (n == q) || t) (has_append a b q) ∙ sym (or_assoc (n == q) (has a q) (has b q))
 
 has_below : (a k q : ℕ) → q < a → has (count_from a k) q ≡ false
 has_below a zero q h = refl
@@ -75,21 +72,13 @@ apart_filter test [] h = tt
 apart_filter test (n ∷ ns) h = by (test n) refl (apart_filter test ns h.1) where
   by : (b : Bool) → test n ≡ b → AreApart (filter test ns) → AreApart (cond (test n) (n ∷ filter test ns) (filter test ns))
   by true e later =
-      subst (λ b. AreApart (cond b (n ∷ filter test ns) (filter test ns))) (sym e) (has_filter test ns n ∙ ap (λ b. test n && b) h.0 ∙ and_false (test n), later)
+      subst (λ b. AreApart (cond b (n ∷ filter test ns) (filter test ns))) (sym e) (has_filter test ns n ∙ ap (λ b. test n && b) h.0 ∙ and-false (test n), later)
   by false e later = subst (λ b. AreApart (cond b (n ∷ filter test ns) (filter test ns))) (sym e) later
 
 apart_append : (a b : List ℕ) → AreApart a → AreApart b → ((q : ℕ) → has a q ≡ true → has b q ≡ false) → AreApart (a ++ b)
 apart_append [] b h k other = k
 apart_append (n ∷ a) b h k other =
-    (has_append a b n ∙ or_from (has a n) (has b n) h.0 (other n (here n)), apart_append a b h.1 k (λ q e. other q (there q e))) where
-      here : (n' : ℕ) → has (n ∷ a) n ≡ true
-      here n' = elim (eqb_tells n n) [ inl e ↦ ap (λ t. t || has a n) e.0 | inr e ↦ absurd (e.1 refl) ]
-
-      there : (q : ℕ) → has a q ≡ true → has (n ∷ a) q ≡ true
-      there q e = by (n == q) e where
-        by : (t : Bool) → has a q ≡ true → (t || has a q) ≡ true
-        by true e = refl
-        by false e = e
+    (has_append a b n ∙ or_from (has a n) (has b n) h.0 (other n (has_here n a)), apart_append a b h.1 k (λ q e. other q (or_right (n == q) (has a q) e)))
 
 abbrev pub InRange : ℕ → Type 0
 InRange n = (0 < n) × (n < 2 ^ 29)
@@ -101,10 +90,6 @@ in_numbers q h = has_within 1 (2 ^ 29 - 1) q (omega arith) (omega arith)
 apart_numbers : AreApart field_numbers
 unfolding field_numbers
 apart_numbers = apart_count 1 (2 ^ 29 - 1)
-
-either : (d : Bool) → (d || (not d && true)) ≡ true
-either true = refl
-either false = refl
 
 -- ---- the order
 
@@ -161,10 +146,6 @@ module _ (type : ℕ → Option Field) where
   declared_first n [] e h = tt
   declared_first n (q ∷ ns) e h = (inl (e, h.0), declared_first n ns e h.1)
 
-  all_append : (P : ℕ → Type 0) (a b : List ℕ) → AllByRecursion P a → AllByRecursion P b → AllByRecursion P (a ++ b)
-  all_append P [] b h k = k
-  all_append P (n ∷ a) b h k = (h.0, all_append P a b h.1 k)
-
   both_in_order : (a b : List ℕ) → AreAlike true a → AreAlike false b → IsInOrder type a → IsInOrder type b → IsInOrder type (a ++ b)
   both_in_order [] b h k i j = j
   both_in_order (n ∷ a) b h k i j = (all_append (ComesBefore type n) a b i.0 (declared_first n b h.0 k), both_in_order a b h.1 k i.1 j)
@@ -213,10 +194,7 @@ module _ (form : Form) (names : Names) (type : ℕ → Option Field) (once : (n 
   apart_once [] h = tt
   apart_once (n ∷ ns) h = (here, apart_once ns there) where
     here : has ns n ≡ false
-    here = elim (eqb_tells n n) [
-      | inl e ↦ none_there n ns (empty_behind n (filter (λ q. q == n) ns) (subst (λ b. AtMostOne (cond b (n ∷ filter (λ q. q == n) ns) (filter (λ q. q == n) ns))) e.0 (h n)))
-      | inr e ↦ absurd (e.1 refl)
-    ]
+    here = none_there n ns (empty_behind n (filter (λ q. q == n) ns) (subst (λ b. AtMostOne (cond b (n ∷ filter (λ q. q == n) ns) (filter (λ q. q == n) ns))) (eq-eqb n n refl) (h n)))
 
     there : (q : ℕ) → AtMostOne (filter (λ n. n == q) ns)
     there q = by (n == q) refl where
@@ -244,23 +222,15 @@ module _ (form : Form) (names : Names) (type : ℕ → Option Field) (once : (n 
 
   first_has : (q : ℕ) → InRange q → has (cond form.as_declared names.declared ascending) q ≡ is_declared (type q)
   first_has q h = by form.as_declared where
-    and_true : (b : Bool) → (b && true) ≡ b
-    and_true true = refl
-    and_true false = refl
-
     by : (b : Bool) → has (cond b names.declared ascending) q ≡ is_declared (type q)
     by true = declared_has q
-    by false = has_filter (λ n. is_declared (type n)) field_numbers q ∙ ap (λ t. is_declared (type q) && t) (in_numbers q h) ∙ and_true (is_declared (type q))
+    by false = has_filter (λ n. is_declared (type n)) field_numbers q ∙ ap (λ t. is_declared (type q) && t) (in_numbers q h) ∙ and-true (is_declared (type q))
 
   first_declared : (q : ℕ) → has (cond form.as_declared names.declared ascending) q ≡ true → is_declared (type q) ≡ true
   first_declared q = by form.as_declared where
-    both : (a b : Bool) → (a && b) ≡ true → a ≡ true
-    both true b e = refl
-    both false b e = cc
-
     by : (b : Bool) → has (cond b names.declared ascending) q ≡ true → is_declared (type q) ≡ true
     by true e = sym (declared_has q) ∙ e
-    by false e = both (is_declared (type q)) (has field_numbers q) (sym (has_filter (λ n. is_declared (type n)) field_numbers q) ∙ e)
+    by false e = (and_parts (is_declared (type q)) (has field_numbers q) (sym (has_filter (λ n. is_declared (type n)) field_numbers q) ∙ e)).0
 
   first_apart : AreApart (cond form.as_declared names.declared ascending)
   first_apart = by form.as_declared where
@@ -273,7 +243,7 @@ module _ (form : Form) (names : Names) (type : ℕ → Option Field) (once : (n 
       has_append (cond form.as_declared names.declared ascending) others q
       ∙ ap (λ t. t || has others q) (first_has q h)
       ∙ ap (λ t. is_declared (type q) || t) (has_filter (λ n. not (is_declared (type n))) field_numbers q ∙ ap (λ t. not (is_declared (type q)) && t) (in_numbers q h))
-      ∙ either (is_declared (type q))
+      ∙ ap (λ t. is_declared (type q) || t) (and-true (not (is_declared (type q)))) ∙ or-not_self (is_declared (type q))
 
   pub order_apart : AreApart (printing_order form names type)
   order_apart =

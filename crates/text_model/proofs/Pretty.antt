@@ -1,5 +1,5 @@
 -- Fields that are printed pretty are cut into their tokens again.
-use Rattle.std.proofs.Common.{◌≡◌, ℕ, zero, suc, ◌+◌, true, false, List, [], ◌∷◌, ◌++◌, replicate, refl, sym, ap, ◌∙◌, subst, append_assoc, append-nil}
+use Rattle.std.proofs.Common.{◌≡◌, ℕ, zero, suc, ◌+◌, ◌==◌, true, false, List, [], ◌∷◌, ◌++◌, replicate, refl, sym, ap, ◌∙◌, subst, append_assoc, append-nil}
 use Rattle.protox_lex.specs.Class.{Text, is_in}
 use Rattle.protox_lex.specs.declared.class.Class.TheVariants as class
 use Rattle.text_lex.specs.Token.{Token, sign}
@@ -8,7 +8,8 @@ use Rattle.text_model.specs.Tree.{FieldName, ScalarValue, curly, angle, Separato
 use Rattle.text_model.specs.Tokens.{name_tokens, scalar_tokens, separator_tokens, value_tokens, more_tokens, values_tokens, given_tokens, fields_tokens}
 use Rattle.text_model.specs.Texts.{AreTokens}
 use Rattle.text_model.specs.Rendered.{run, line, last_line, pretty_value, pretty_more, pretty_values, pretty_given, lines, pretty}
-use Rattle.text_model.proofs.Leaves.{Lexed, lexed_nil, token_before, ends_number, comma_front, colon_front, bracket_front, close_bracket_front, brace_front, close_brace_front}
+use Rattle.text_model.proofs.Leaves.{Lexed, lexed_nil, ends_number}
+use Rattle.text_model.proofs.Signs.{IsSign, bracket_sign, brace_sign, close_bracket_sign, close_brace_sign, colon_sign, comma_sign, sign_before}
 use Rattle.text_model.proofs.Written.{AreWritten, Follows, IsBetween, IsCleanScalar, IsNameShown, IsValueShown, AreValuesShown, IsGivenShown, AreShown, scalar_written, name_written, run_lexed}
 
 blank_before : (b : ℕ) (z : Text) (ts : List Token) → is_in class.Blank b ≡ true → Lexed z ts → Lexed (b ∷ z) ts
@@ -34,23 +35,9 @@ name_before n c z ts e h = run_lexed (name_tokens n) (subst AreWritten (append-n
 same : (x y : Text) (ts us : List Token) → x ≡ y → ts ≡ us → Lexed x ts → Lexed y us
 same x y ts us e f h = subst (λ t. Lexed t us) e (subst (Lexed x) f h)
 
-brace_before : (z : Text) (ts : List Token) → Lexed z ts → Lexed (123 ∷ z) (sign 123 ∷ ts)
-brace_before z ts h = token_before 123 [] z (sign 123) ts (λ at. brace_front at z) h
-
-close_brace_before : (z : Text) (ts : List Token) → Lexed z ts → Lexed (125 ∷ z) (sign 125 ∷ ts)
-close_brace_before z ts h = token_before 125 [] z (sign 125) ts (λ at. close_brace_front at z) h
-
-bracket_before : (z : Text) (ts : List Token) → Lexed z ts → Lexed (91 ∷ z) (sign 91 ∷ ts)
-bracket_before z ts h = token_before 91 [] z (sign 91) ts (λ at. bracket_front at z) h
-
-close_bracket_before : (z : Text) (ts : List Token) → Lexed z ts → Lexed (93 ∷ z) (sign 93 ∷ ts)
-close_bracket_before z ts h = token_before 93 [] z (sign 93) ts (λ at. close_bracket_front at z) h
-
-colon_before : (z : Text) (ts : List Token) → Lexed z ts → Lexed (58 ∷ 32 ∷ z) (sign 58 ∷ ts)
-colon_before z ts h = token_before 58 [] (32 ∷ z) (sign 58) ts (λ at. colon_front at (32 ∷ z)) (blank_before 32 z ts refl h)
-
-comma_before : (z : Text) (ts : List Token) → Lexed z ts → Lexed (44 ∷ 32 ∷ z) (sign 44 ∷ ts)
-comma_before z ts h = token_before 44 [] (32 ∷ z) (sign 44) ts (λ at. comma_front at (32 ∷ z)) (blank_before 32 z ts refl h)
+-- a sign and a space
+spaced_before : (b : ℕ) → IsSign b → (b == 46) ≡ false → (z : Text) (ts : List Token) → Lexed z ts → Lexed (b ∷ 32 ∷ z) (sign b ∷ ts)
+spaced_before b is other z ts h = sign_before b is other (32 ∷ z) ts (blank_before 32 z ts refl h)
 
 more_ends : (n : ℕ) (vs : Values) (z : Text) → ends_number (pretty_more n vs ++ 93 ∷ z) ≡ true
 more_ends n no_values z = refl
@@ -70,9 +57,9 @@ last_ends n no_fields z = refl
 last_ends n (more_fields m g s fs) z = refl
 
 last_before : (n : ℕ) (fs : Fields) (z : Text) (ts : List Token) → Lexed z ts → Lexed (last_line n fs ++ z) (sign 125 ∷ ts)
-last_before n no_fields z ts h = close_brace_before z ts h
+last_before n no_fields z ts h = sign_before 125 close_brace_sign refl z ts h
 last_before n (more_fields m g s fs) z ts h =
-    subst (λ y. Lexed y (sign 125 ∷ ts)) (sym (append_assoc (line n) (125 ∷ []) z)) (on_line n (125 ∷ z) (sign 125 ∷ ts) (close_brace_before z ts h))
+    subst (λ y. Lexed y (sign 125 ∷ ts)) (sym (append_assoc (line n) (125 ∷ []) z)) (on_line n (125 ∷ z) (sign 125 ∷ ts) (sign_before 125 close_brace_sign refl z ts h))
 
 no_sign : (s : Separator) (fs : Fields) → IsBetween true s fs → separator_tokens s ≡ []
 no_sign no_separator fs c = refl
@@ -92,36 +79,36 @@ mutual
   value_lexed n (braced curly fs) c z ts e h =
       same (123 ∷ (lines (n + 2) fs ++ (last_line n fs ++ z))) (123 ∷ ((lines (n + 2) fs ++ last_line n fs) ++ z)) (sign 123 ∷ (fields_tokens fs ++ sign 125 ∷ ts)) (sign 123 ∷ ((fields_tokens fs ++ sign 125 ∷ []) ++ ts))
       (ap (λ (t : Text). 123 ∷ t) (sym (append_assoc (lines (n + 2) fs) (last_line n fs) z))) (ap (λ us. sign 123 ∷ us) (sym (append_assoc (fields_tokens fs) (sign 125 ∷ []) ts)))
-      (brace_before (lines (n + 2) fs ++ (last_line n fs ++ z)) (fields_tokens fs ++ sign 125 ∷ ts) (lines_lexed (n + 2) fs c (last_line n fs ++ z) (sign 125 ∷ ts) (last_ends n fs z) (last_before n fs z ts h)))
+      (sign_before 123 brace_sign refl (lines (n + 2) fs ++ (last_line n fs ++ z)) (fields_tokens fs ++ sign 125 ∷ ts) (lines_lexed (n + 2) fs c (last_line n fs ++ z) (sign 125 ∷ ts) (last_ends n fs z) (last_before n fs z ts h)))
 
   more_lexed : (n : ℕ) (vs : Values) → AreValuesShown true vs → (z : Text) (ts : List Token) → Lexed z ts → Lexed (pretty_more n vs ++ 93 ∷ z) (more_tokens vs ++ sign 93 ∷ ts)
-  more_lexed n no_values c z ts h = close_bracket_before z ts h
+  more_lexed n no_values c z ts h = sign_before 93 close_bracket_sign refl z ts h
   more_lexed n (more_values v vs) c z ts h =
       same (44 ∷ 32 ∷ (pretty_value n v ++ (pretty_more n vs ++ 93 ∷ z))) (44 ∷ 32 ∷ ((pretty_value n v ++ pretty_more n vs) ++ 93 ∷ z)) (sign 44 ∷ (value_tokens v ++ (more_tokens vs ++ sign 93 ∷ ts))) (sign 44 ∷ ((value_tokens v ++ more_tokens vs) ++ sign 93 ∷ ts))
       (ap (λ (t : Text). 44 ∷ 32 ∷ t) (sym (append_assoc (pretty_value n v) (pretty_more n vs) (93 ∷ z)))) (ap (λ us. sign 44 ∷ us) (sym (append_assoc (value_tokens v) (more_tokens vs) (sign 93 ∷ ts))))
-      (comma_before (pretty_value n v ++ (pretty_more n vs ++ 93 ∷ z)) (value_tokens v ++ (more_tokens vs ++ sign 93 ∷ ts))
+      (spaced_before 44 comma_sign refl (pretty_value n v ++ (pretty_more n vs ++ 93 ∷ z)) (value_tokens v ++ (more_tokens vs ++ sign 93 ∷ ts))
       (value_lexed n v c.0 (pretty_more n vs ++ 93 ∷ z) (more_tokens vs ++ sign 93 ∷ ts) (more_ends n vs z) (more_lexed n vs c.1 z ts h)))
 
   values_lexed : (n : ℕ) (vs : Values) → AreValuesShown true vs → (z : Text) (ts : List Token) → Lexed z ts → Lexed (pretty_values n vs ++ 93 ∷ z) (values_tokens vs ++ sign 93 ∷ ts)
-  values_lexed n no_values c z ts h = close_bracket_before z ts h
+  values_lexed n no_values c z ts h = sign_before 93 close_bracket_sign refl z ts h
   values_lexed n (more_values v vs) c z ts h =
       same (pretty_value n v ++ (pretty_more n vs ++ 93 ∷ z)) ((pretty_value n v ++ pretty_more n vs) ++ 93 ∷ z) (value_tokens v ++ (more_tokens vs ++ sign 93 ∷ ts)) ((value_tokens v ++ more_tokens vs) ++ sign 93 ∷ ts)
       (sym (append_assoc (pretty_value n v) (pretty_more n vs) (93 ∷ z))) (sym (append_assoc (value_tokens v) (more_tokens vs) (sign 93 ∷ ts)))
       (value_lexed n v c.0 (pretty_more n vs ++ 93 ∷ z) (more_tokens vs ++ sign 93 ∷ ts) (more_ends n vs z) (more_lexed n vs c.1 z ts h))
 
   given_lexed : (n : ℕ) (g : Given) → IsGivenShown true g → (z : Text) (ts : List Token) → ends_number z ≡ true → Lexed z ts → Lexed (pretty_given n g ++ z) (given_tokens g ++ ts)
-  given_lexed n (one_scalar s) c z ts e h = colon_before (run (scalar_tokens s) ++ z) (scalar_tokens s ++ ts) (scalar_before s c z ts e h)
+  given_lexed n (one_scalar s) c z ts e h = spaced_before 58 colon_sign refl (run (scalar_tokens s) ++ z) (scalar_tokens s ++ ts) (scalar_before s c z ts e h)
   given_lexed n (one_message false angle fs) c z ts e h = absurd c
   given_lexed n (one_message true b fs) c z ts e h = absurd c
   given_lexed n (one_message false curly fs) c z ts e h =
       same (32 ∷ 123 ∷ (lines (n + 2) fs ++ (last_line n fs ++ z))) (32 ∷ 123 ∷ ((lines (n + 2) fs ++ last_line n fs) ++ z)) (sign 123 ∷ (fields_tokens fs ++ sign 125 ∷ ts)) (sign 123 ∷ ((fields_tokens fs ++ sign 125 ∷ []) ++ ts))
       (ap (λ (t : Text). 32 ∷ 123 ∷ t) (sym (append_assoc (lines (n + 2) fs) (last_line n fs) z))) (ap (λ us. sign 123 ∷ us) (sym (append_assoc (fields_tokens fs) (sign 125 ∷ []) ts)))
       (blank_before 32 (123 ∷ (lines (n + 2) fs ++ (last_line n fs ++ z))) (sign 123 ∷ (fields_tokens fs ++ sign 125 ∷ ts)) refl
-      (brace_before (lines (n + 2) fs ++ (last_line n fs ++ z)) (fields_tokens fs ++ sign 125 ∷ ts) (lines_lexed (n + 2) fs c (last_line n fs ++ z) (sign 125 ∷ ts) (last_ends n fs z) (last_before n fs z ts h))))
+      (sign_before 123 brace_sign refl (lines (n + 2) fs ++ (last_line n fs ++ z)) (fields_tokens fs ++ sign 125 ∷ ts) (lines_lexed (n + 2) fs c (last_line n fs ++ z) (sign 125 ∷ ts) (last_ends n fs z) (last_before n fs z ts h))))
   given_lexed n (listed vs) c z ts e h =
       same (58 ∷ 32 ∷ 91 ∷ (pretty_values n vs ++ 93 ∷ z)) (58 ∷ 32 ∷ 91 ∷ ((pretty_values n vs ++ 93 ∷ []) ++ z)) (sign 58 ∷ sign 91 ∷ (values_tokens vs ++ sign 93 ∷ ts)) (sign 58 ∷ sign 91 ∷ ((values_tokens vs ++ sign 93 ∷ []) ++ ts))
       (ap (λ (t : Text). 58 ∷ 32 ∷ 91 ∷ t) (sym (append_assoc (pretty_values n vs) (93 ∷ []) z))) (ap (λ us. sign 58 ∷ sign 91 ∷ us) (sym (append_assoc (values_tokens vs) (sign 93 ∷ []) ts)))
-      (colon_before (91 ∷ (pretty_values n vs ++ 93 ∷ z)) (sign 91 ∷ (values_tokens vs ++ sign 93 ∷ ts)) (bracket_before (pretty_values n vs ++ 93 ∷ z) (values_tokens vs ++ sign 93 ∷ ts) (values_lexed n vs c z ts h)))
+      (spaced_before 58 colon_sign refl (91 ∷ (pretty_values n vs ++ 93 ∷ z)) (sign 91 ∷ (values_tokens vs ++ sign 93 ∷ ts)) (sign_before 91 bracket_sign refl (pretty_values n vs ++ 93 ∷ z) (values_tokens vs ++ sign 93 ∷ ts) (values_lexed n vs c z ts h)))
 
   lines_lexed : (n : ℕ) (fs : Fields) → AreShown true fs → (z : Text) (ts : List Token) → ends_number z ≡ true → Lexed z ts → Lexed (lines n fs ++ z) (fields_tokens fs ++ ts)
   lines_lexed n no_fields c z ts e h = h

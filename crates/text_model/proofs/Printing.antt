@@ -2,7 +2,7 @@
 use Rattle.std.proofs.Common.{not, ◌≡◌, ◌⊎◌, inl, inr, ℕ, ◌==◌, ◌||◌, ◌&&◌, Bool, true, false, cond, List, [], ◌∷◌, ◌++◌, Option, None, Some, option_and_then, refl, sym, ap, ◌∙◌, subst}
 use Rattle.std.specs.List.{flat_map}
 use Rattle.std.proofs.lemmas.Bool.Decides.{eqb_tells}
-use Rattle.std.proofs.lemmas.Bool.{and_parts, not-true, or_from}
+use Rattle.std.proofs.lemmas.Bool.{and_parts, eq-eqb, ne_eqb, not-true, or_from}
 use mathlib.Core.Path.{fun_ext}
 use Rattle.protox_lex.specs.Class.{Text}
 use Rattle.reflect_wire.specs.Records.{Payload}
@@ -16,7 +16,7 @@ use Rattle.text_model.specs.Value.{assign, written, with_field, named_value, val
 use Rattle.text_model.specs.Printed.{Inner, lacks_presence, default_given, unset, joined, parts, field_name, printing_order, printed_content, printed_held, printed_fields, printed_by}
 use Rattle.text_model.specs.Plain.{IsPlainHeld, IsPlain}
 use Rattle.text_model.specs.Unset.{HaveReadDefaults}
-use Rattle.text_model.proofs.Orders.{has, AreApart, true_false, order_has, order_apart}
+use Rattle.text_model.proofs.Orders.{has, has_here, AreApart, true_false, order_has, order_apart}
 use Rattle.text_model.proofs.Contents.{field_back}
 use Rattle.text_model.proofs.Rivals.{no_rival}
 use Rattle.text_model.proofs.Unset.{unset_back}
@@ -70,9 +70,6 @@ found w s n f m give fill finds has = by (f.extension) refl where
 record IsPart (left : List ℕ) (m x : Message) : Type 0 where
   done : (q : ℕ) → has left q ≡ false → x q ≡ m q
   todo : (q : ℕ) → has left q ≡ true → x q ≡ absent
-
-has_here : (n : ℕ) (ns : List ℕ) → has (n ∷ ns) n ≡ true
-has_here n ns = elim (eqb_tells n n) [ inl h ↦ ap (λ b. b || has ns n) h.0 | inr h ↦ absurd (h.1 refl) ]
 
 -- one number less is left
 part_on : (n : ℕ) (ns : List ℕ) (m x y : Message) → has ns n ≡ false → IsPart (n ∷ ns) m x → y n ≡ m n → ((q : ℕ) → (q ≡ n → ⊥) → y q ≡ x q) → IsPart ns m y
@@ -152,10 +149,10 @@ module _ (form : Form) (w : Schema) (told : form.defaults ≡ true → HaveReadD
       ∙ field_back form w inner typed back (shape_of w t) n (names.enums n) f.part f.label (λ key is. entries n f key e is) f.oneof f.extension x c suits plain_one here (no_rival type n x others))
       ∙ goes (assign type n (content c) x) (part_on n ns m x (assign type n (content c) x) apart p (assigned_here ∙ sym i) (λ q d. assigned_there q d (rival type n q) refl others)) where
         assigned_here : assign type n (content c) x n ≡ content c
-        assigned_here = elim (eqb_tells n n) [ inl k ↦ ap (λ b. cond b (content c) (cond (rival type n n) absent (x n))) k.0 | inr k ↦ absurd (k.1 refl) ]
+        assigned_here = ap (λ b. cond b (content c) (cond (rival type n n) absent (x n))) (eq-eqb n n refl)
 
         apart_number : (q : ℕ) → (q ≡ n → ⊥) → assign type n (content c) x q ≡ cond (rival type n q) absent (x q)
-        apart_number q d = elim (eqb_tells q n) [ inl k ↦ absurd (d k.1) | inr k ↦ ap (λ b. cond b (content c) (cond (rival type n q) absent (x q))) k.0 ]
+        apart_number q d = ap (λ b. cond b (content c) (cond (rival type n q) absent (x q))) (ne_eqb q n d)
 
         assigned_there : (q : ℕ) → (q ≡ n → ⊥) → (r : Bool) → rival type n q ≡ r → ((q : ℕ) → rival type n q ≡ true → x q ≡ absent) → assign type n (content c) x q ≡ x q
         assigned_there q d true r others = apart_number q d ∙ ap (λ b. cond b absent (x q)) r ∙ sym (others q r)

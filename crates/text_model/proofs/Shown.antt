@@ -1,5 +1,5 @@
 -- What a message is printed as is cut into its tokens again.
-use Rattle.std.proofs.Common.{codes, ◌≡◌, ℕ, ℤ, suc, pos, negsuc, ◌<◌, ◌^◌, ◌&&◌, not, Bool, true, false, cond, List, [], ◌∷◌, ◌++◌, Option, Some, None, FitsSigned, refl, sym, subst, arith}
+use Rattle.std.proofs.Common.{codes, ◌≡◌, ℕ, ℤ, suc, pos, negsuc, ◌<◌, ◌^◌, ◌&&◌, not, Bool, true, false, cond, List, [], ◌∷◌, Option, Some, None, FitsSigned, refl, sym, subst, arith}
 use Rattle.std.specs.Int.{w32, w64}
 use Rattle.std.specs.List.{flat_map, list_all, AllByRecursion}
 use Rattle.std.proofs.lemmas.Bool.{and_parts, not-true}
@@ -11,6 +11,7 @@ use Rattle.protobuf_model.specs.Types.{Name, Scalar, Kind, scalar, nested, Part,
 use Rattle.protobuf_model.specs.Types as kinds
 use Rattle.protobuf_model.specs.Scalars.{Suits}
 use Rattle.protobuf_model.specs.Coded.{SuitsType}
+use Rattle.protobuf_model.proofs.Arranged.{all_append}
 use Rattle.protobuf_model.specs.Typed.{IsOf, IsEntryOf, IsFieldOf, IsHeldOf, IsTypedBy}
 use Rattle.text_model.specs.Tree.{one_scalar, FullName, FieldName, plain, extension, no_separator, Given, Fields, no_fields}
 use Rattle.text_model.specs.Tokens.{fields_tokens}
@@ -105,13 +106,9 @@ name_shown names n f h = by (f.extension) refl h where
       subst (λ b. IsNameShown (cond b (extension (parts (names.name n))) (plain (names.name n)))) (sym e)
       (full_name_shown (parts (names.name n)) (subst (λ b. cond b (is_full_name (parts (names.name n))) (is_identifier (names.name n)) ≡ true) e h))
 
-all_append : (p : Bool) (a b : List (FieldName × Given)) → AllByRecursion (IsEntryShown p) a → AllByRecursion (IsEntryShown p) b → AllByRecursion (IsEntryShown p) (a ++ b)
-all_append p [] b h k = k
-all_append p (x ∷ a) b h k = (h.0, all_append p a b h.1 k)
-
 all_of : (p : Bool) (f : ℕ → List (FieldName × Given)) (ns : List ℕ) → ((n : ℕ) → AllByRecursion (IsEntryShown p) (f n)) → AllByRecursion (IsEntryShown p) (flat_map f ns)
 all_of p f [] h = tt
-all_of p f (n ∷ ns) h = all_append p (f n) (flat_map f ns) (h n) (all_of p f ns h)
+all_of p f (n ∷ ns) h = all_append (IsEntryShown p) (f n) (flat_map f ns) (h n) (all_of p f ns h)
 
 -- ---- contents
 

@@ -3,6 +3,7 @@ use Rattle.std.proofs.Common.{◌≡◌, ◌⊎◌, inl, inr, ℕ, ℤ, pos, neg
 use Rattle.std.proofs.lemmas.Bool.{eq-eqb, not-true}
 use Rattle.std.proofs.lemmas.Bool.Decides.{eqb_tells}
 use Rattle.std.proofs.lemmas.Slice.Eq.{bytes_eq-Decides}
+use mathlib.Core.Bool.{and-false}
 use mathlib.Core.Path.{fun_ext}
 use Rattle.protobuf_model.specs.Values.{Single, truth, int32, int64, uint32, uint64, text, blob, enumerated, single, content, Message, absent}
 use Rattle.protobuf_model.specs.Types.{Kind, scalar, nested, Part, Label, one, many, keyed, Field, oneof_of, same_oneof, rival}
@@ -14,7 +15,7 @@ use Rattle.text_model.specs.Printed.{lacks_presence, default_given, printed_sing
 use Rattle.text_model.specs.Tree.{one_scalar}
 use Rattle.text_model.specs.Unset.{IsOfKind, HasReadDefault}
 use Rattle.text_model.proofs.Contents.{set_back}
-use Rattle.text_model.proofs.Orders.{and_false, true_false}
+use Rattle.text_model.proofs.Orders.{true_false}
 use Rattle.text_model.proofs.Rivals.{no_rival}
 use Rattle.text_model.proofs.Singles.{AreFound, single_back}
 
@@ -51,7 +52,7 @@ module _ (type : ℕ → Option Field) (n : ℕ) (alone : oneof_of (type n) ≡ 
   no_sibling q =
       ap (λ o. not (q == n) && same_oneof o (oneof_of (type q))) alone
       ∙ ap (λ b. not (q == n) && b) (none_shared (oneof_of (type q)))
-      ∙ and_false (not (q == n))
+      ∙ and-false (not (q == n))
 
   -- nothing is put where nothing is
   nothing_put : (x : Message) → x n ≡ absent → assign type n absent x ≡ x

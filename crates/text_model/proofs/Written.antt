@@ -16,8 +16,9 @@ use Rattle.text_model.specs.Rendered.{run}
 use Rattle.text_model.specs.Identifiers.{is_identifier}
 use Rattle.text_model.proofs.Front.{is_sign, is_at}
 use Rattle.text_model.proofs.Reading.{grouped}
-use Rattle.text_model.proofs.Leaves.{Lexed, lexed_nil, token_before, ends_word, ends_number, comma_front, minus_front, dot_front, slash_front, colon_front, bracket_front, close_bracket_front, brace_front, close_brace_front, word_front, string_front}
+use Rattle.text_model.proofs.Leaves.{Lexed, lexed_nil, token_before, ends_word, ends_number, word_front, string_front}
 use Rattle.text_model.proofs.Decimals.{letter_solid, letter_no_digit, decimal_front}
+use Rattle.text_model.proofs.Signs.{IsSign, comma_sign, minus_sign, dot_sign, slash_sign, colon_sign, bracket_sign, close_bracket_sign, brace_sign, close_brace_sign}
 
 abbrev pub begins_word : Token → Bool
 begins_word (ident w) = true
@@ -28,11 +29,6 @@ begins_word _ = false
 abbrev pub is_ident : Token → Bool
 is_ident (ident w) = true
 is_ident _ = false
-
--- a sign is cut where it stands, a dot where no digit follows it
-pub record IsSign (b : ℕ) : Type 0 where
-  pub front : (at : ℕ) (z : Text) → ((b == 46) ≡ false) ⊎ (is_in class.Digit (slice_index z 0) ≡ false) → front at (b ∷ z) ≡ Ok (token (sign b), 1)
-  pub word : is_in class.Word b ≡ false
 
 -- it is written as it is cut
 abbrev pub IsClean : Token → Type 0
@@ -119,33 +115,6 @@ run_lexed (sign b ∷ ts) h z us e g =
     token_before b [] (run ts ++ z) (sign b) (ts ++ us) (λ at. h.0.front at (run ts ++ z) (elim h.1 [ inl i ↦ inl i | inr i ↦ inr (no_digit ts z h.2 i) ])) (run_lexed ts h.2 z us e g)
 
 -- ---- trees
-
-pub comma_sign : IsSign 44
-comma_sign = record { front = λ at z h. comma_front at z; word = refl }
-
-minus_sign : IsSign 45
-minus_sign = record { front = λ at z h. minus_front at z; word = refl }
-
-dot_sign : IsSign 46
-dot_sign = record { front = λ at z h. dot_front at z (elim h [ inl e ↦ absurd (let x : true ≡ false = e in cc) | inr e ↦ e ]); word = refl }
-
-slash_sign : IsSign 47
-slash_sign = record { front = λ at z h. slash_front at z; word = refl }
-
-pub colon_sign : IsSign 58
-colon_sign = record { front = λ at z h. colon_front at z; word = refl }
-
-pub bracket_sign : IsSign 91
-bracket_sign = record { front = λ at z h. bracket_front at z; word = refl }
-
-pub close_bracket_sign : IsSign 93
-close_bracket_sign = record { front = λ at z h. close_bracket_front at z; word = refl }
-
-pub brace_sign : IsSign 123
-brace_sign = record { front = λ at z h. brace_front at z; word = refl }
-
-pub close_brace_sign : IsSign 125
-close_brace_sign = record { front = λ at z h. close_brace_front at z; word = refl }
 
 -- neither a word nor a dot
 pub record Follows (ts : List Token) : Type 0 where
