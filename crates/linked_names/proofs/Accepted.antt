@@ -1,5 +1,5 @@
 -- A batch that is accepted keeps a pool's names apart, and as sources give them.
-use Rattle.std.proofs.Common.{◌≡◌, [], ◌⊎◌, inl, inr, ◌<◌, ◌≤◌, ◌++◌, ℕ, true, List, map, length, Option, Some, slice_index_or, sym, ap, ◌∙◌, subst, arith, refl, false, ℤ, slice_get}
+use Rattle.std.proofs.Common.{◌≡◌, [], ◌⊎◌, inl, inr, ◌<◌, ◌≤◌, ◌+◌, ◌++◌, ℕ, true, List, map, length, Option, Some, slice_index_or, sym, ap, ◌∙◌, subst, arith, refl, false, ℤ, slice_get}
 use Rattle.std.specs.List.{AllByRecursion}
 use Rattle.descriptor_records.specs.Content.{file_view}
 use Rattle.descriptor_records.specs.declared.file.FileDescriptorProto.{FileDescriptorProto}
@@ -32,7 +32,7 @@ use Rattle.linked_names.proofs.Batch.{ds, known, types_are, extensions_are, exte
 use Rattle.linked_names.proofs.Entries.{entry_named}
 use Rattle.linked_names.proofs.Kept.{field_same, scope_stays, group_stays, parts_stay}
 use Rattle.reflect_index.proofs.Behind.{which, IsLater}
-use Rattle.reflect_index.proofs.Declared.{field_declared}
+use Rattle.reflect_index.proofs.Declared.{FieldDeclared, field_declared}
 use Rattle.linked_names.proofs.Sourced.{IsSourced, batch_sourced}
 use Rattle.linked_names.proofs.Stored.{names_apart, enum_of_batch, values_apart, new_scoped, field_spelled, group_spelled, value_spelled, extension_spelled}
 
@@ -138,22 +138,22 @@ module _ (old new : PoolType) (ns : List FileDescriptorProto) (w : Linking) (is 
         ∙ extension_found k less);
   }
 
-  -- ---- presence
+  -- ---- fields
 
-  present : HasPresentMessages old → HasPresentMessages new
-  present has i j lt = elim (which_type i) [
-    | inl (here, type) ↦ subst HasMessagePresence
+  -- what holds of the fields that the batch declares holds of all, if it did of those before
+  pub each_field : (P : FieldType → Type 0) → ((i j : ℕ) (f : FieldType)
+      → FieldDeclared batch.references all i j f → P f)
+      → ((i j : ℕ) → j < length (type_at old i).fields → P (type_of_field old i j))
+      → (i j : ℕ) → j < length (type_at new i).fields → P (type_of_field new i j)
+  each_field P brings has i j lt = elim (which_type i) [
+    | inl (here, type) ↦ subst P
         (sym (field_same old new b (map record_file ns) pooled files_are messages_are enums_are i here j))
         (has i j (subst (λ (t : MessageType). j < length t.fields) type lt))
-    | inr (inl later) ↦ (
-        let there = subst (λ (t : MessageType). slice_get t.fields j ≡ Some (type_of_field new i j))
-        later.is (get_at (type_at new i).fields j no_field lt) in
-        let d = field_declared batch.references w.before w.first ns b batch.declared.entries
-        later.place later.own j (type_of_field new i j) later.at there in
-        λ one single. d.says.presence
-        ∙ single_present d.met.hand.syntax (label_of d.own.label) d.holds d.own.oneof_index
-        (subst IsMessageType d.says.says.kind one)
-        (sym (ap is_repeated d.says.says.cardinality) ∙ single))
+    | inr (inl later) ↦ brings (w.before.messages + later.place) j (type_of_field new i j)
+        (field_declared batch.references w.before w.first ns b batch.declared.entries
+        later.place later.own j (type_of_field new i j) later.at
+        (subst (λ (t : MessageType). slice_get t.fields j ≡ Some (type_of_field new i j))
+        later.is (get_at (type_at new i).fields j no_field lt)))
     | inr (inr none) ↦ absurd (no_field_there i j none.1 lt)
   ]
 
@@ -270,4 +270,8 @@ accepted_sources old new files sound (w, is, (names, batch)) sources pool =
 pub accepted_present : (old new : PoolType) (files : List FileDescriptorProto) → IsSound old
     → FaultlessFiles old files new → HasPresentMessages old → HasPresentMessages new
 accepted_present old new files sound (w, is, (names, batch)) has =
-    present old new (new_files w.indexes files) w is sound.pooled names batch has
+    each_field old new (new_files w.indexes files) w is sound.pooled names batch HasMessagePresence
+    (λ i j f d one single. d.says.presence
+    ∙ single_present d.met.hand.syntax (label_of d.own.label) d.holds d.own.oneof_index
+    (subst IsMessageType d.says.says.kind one)
+    (sym (ap is_repeated d.says.says.cardinality) ∙ single)) has

@@ -7,7 +7,10 @@ mod Groups
 mod Stored
 mod Entries
 mod Kept
+mod ByteDefaults
+mod LoneLists
 pub mod Accepted
+pub mod Unset
 pub mod Stays
 pub mod Typed
 mod Example

@@ -54,6 +54,12 @@ may_hold E X scope o naming (inl h) none =
     inl (inr (full_join scope (text_of o) naming (spelled_text o h)))
 may_hold E X scope o naming (inr h) none = inr (none h.0)
 
+-- a file's messages, as its content has them
+pub contents_are : (ms : List DescriptorProto) → content.messages_of (map message_view ms)
+    ≡ trees_content (messages_of (map tree_of ms))
+contents_are [] = refl
+contents_are (m ∷ ms) = λ i. content.more_messages (content_is m i) (contents_are ms i)
+
 -- ---- what is declared in a message
 
 -- one of the declarations is a message of the name in the scope and the file
@@ -364,11 +370,6 @@ module _ (files : List FileDescriptorProto) (first : ℕ) (ds : List Declaration
   package_naming : (o : Option (String Global)) → IsPackage (text_view o) → IsNaming (text_of o)
   package_naming None h = inl refl
   package_naming (Some s) h = inr h
-
-  contents_are : (ms : List DescriptorProto) → content.messages_of (map message_view ms)
-      ≡ trees_content (messages_of (map tree_of ms))
-  contents_are [] = refl
-  contents_are (m ∷ ms) = λ i. content.more_messages (content_is m i) (contents_are ms i)
 
   file_sourced : (o : Offsets) (i : ℕ) (f : FileDescriptorProto) → IsSourceFile (file_view f)
       → (placed : IsFileAt i) → placed.own ≡ f → Inside (file_declarations o i f)

@@ -6,6 +6,7 @@ use Rattle.reflect_tables.specs.declared.stored.StoredEntry.{StoredEntry}
 use Rattle.text_view.specs.SourceNames.{IsGroupField, HasPartNames}
 use Rattle.linked_names.specs.Presence.{HasPresentMessages}
 use Rattle.linked_names.specs.SourcePools.{IsSourcePool}
+use Rattle.linked_names.specs.Unset.{HasReadUnset}
 
 same_group : (old : PoolType) (records : List FileDescriptorProto) (i : ℕ) (f : FieldType)
     → IsGroupField old i f → IsGroupField (record old { records = records }) i f
@@ -56,3 +57,6 @@ settled_sources old new settled pool =
 pub settled_present : (old new : PoolType) → IsSettled old new → HasPresentMessages old
     → HasPresentMessages new
 settled_present old new settled has = subst HasPresentMessages (sym settled) has
+
+pub settled_unset : (old new : PoolType) → IsSettled old new → HasReadUnset old → HasReadUnset new
+settled_unset old new settled has = subst HasReadUnset (sym settled) has

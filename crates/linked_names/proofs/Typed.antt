@@ -1,9 +1,10 @@
--- The options that linking reads itself say nothing of names.
+-- The options that linking reads itself say nothing of names, and nothing of what is in a oneof.
 use Rattle.std.proofs.Common.{◌≡◌, inl, inr, ℤ, List, [], ◌∷◌, map, refl, ap, sym, subst}
 use Rattle.std.specs.List.{AllByRecursion}
 use Rattle.descriptor_records.specs.Content.{Text, FieldContent, EnumContent, MessageContent, message, MessageContents, no_messages, more_messages, messages_of, FileContent, file_view}
 use Rattle.descriptor_records.specs.declared.file.FileDescriptorProto.{FileDescriptorProto}
 use Rattle.option_parts.specs.TypedOptions.{typed_field, typed_enum, typed_message, typed_messages, typed_file, TypedFiles}
+use Rattle.source_records.specs.LoneLists.{IsLoneList, HasLoneLists, HaveLoneLists, GivesLoneLists}
 use Rattle.source_records.specs.SourceNames.{IsSpelled, AreSpelled, HasSpelledValues, Declares, HaveGroupNames, IsPart, AreParts, IsSourceMessage, AreSourceMessages, IsSourceFile}
 use Rattle.linked_view.proofs.Completes.{mapped_all, all_mapped}
 
@@ -90,15 +91,44 @@ typed_file_named f h = record {
   extensions = typed_spelled f.extension h.extensions;
 }
 
-all_typed : (fs : List FileContent) → AllByRecursion IsSourceFile fs
-    → AllByRecursion IsSourceFile (map typed_file fs)
-all_typed [] h = tt
-all_typed (f ∷ fs) h = (typed_file_named f h.0, all_typed fs h.1)
+-- ---- lists
+
+mutual
+  typed_lone : (m : MessageContent) → HasLoneLists m → HasLoneLists (typed_message m)
+  typed_lone (message name fields extensions nested enums ranges oneofs options reserved names) h =
+      (mapped_all typed_field IsLoneList fields h.0, typed_lones nested h.1)
+
+  typed_lones : (ms : MessageContents) → HaveLoneLists ms → HaveLoneLists (typed_messages ms)
+  typed_lones no_messages h = h
+  typed_lones (more_messages m ms) h = (typed_lone m h.0, typed_lones ms h.1)
+
+typed_file_lone : (f : FileContent) → GivesLoneLists f → GivesLoneLists (typed_file f)
+typed_file_lone f h =
+    subst HaveLoneLists (typed_list f.message_type) (typed_lones (messages_of f.message_type) h)
+
+-- ---- files
+
+module _ (P : FileContent → Type 0) (kept : (f : FileContent) → P f → P (typed_file f)) where
+  all_typed : (fs : List FileContent) → AllByRecursion P fs
+      → AllByRecursion P (map typed_file fs)
+  all_typed [] h = tt
+  all_typed (f ∷ fs) h = (kept f h.0, all_typed fs h.1)
+
+  -- what these options say nothing of stays
+  typed_keep : (files typed : List FileDescriptorProto) → TypedFiles files typed
+      → AllByRecursion (λ (f : FileDescriptorProto). P (file_view f)) files
+      → AllByRecursion (λ (f : FileDescriptorProto). P (file_view f)) typed
+  typed_keep files typed same all =
+      all_mapped file_view P typed
+      (subst (AllByRecursion P) (sym same)
+      (all_typed (map file_view files) (mapped_all file_view P files all)))
 
 pub typed_files : (files typed : List FileDescriptorProto) → TypedFiles files typed
     → AllByRecursion (λ (f : FileDescriptorProto). IsSourceFile (file_view f)) files
     → AllByRecursion (λ (f : FileDescriptorProto). IsSourceFile (file_view f)) typed
-typed_files files typed same all =
-    all_mapped file_view IsSourceFile typed
-    (subst (AllByRecursion IsSourceFile) (sym same)
-    (all_typed (map file_view files) (mapped_all file_view IsSourceFile files all)))
+typed_files = typed_keep IsSourceFile typed_file_named
+
+pub typed_lists : (files typed : List FileDescriptorProto) → TypedFiles files typed
+    → AllByRecursion (λ (f : FileDescriptorProto). GivesLoneLists (file_view f)) files
+    → AllByRecursion (λ (f : FileDescriptorProto). GivesLoneLists (file_view f)) typed
+typed_lists = typed_keep GivesLoneLists typed_file_lone

@@ -1,3 +1,4 @@
 pub mod OneProof
 pub mod Presence
 pub mod SourcePools
+pub mod Unset

@@ -12,9 +12,11 @@ ghost use Rattle.reflect_pool.specs.Linked.{empty_pool};
 ghost use Rattle.reflect_tables.specs.Types.{IsSettled, PoolType};
 ghost use Rattle.message_view.specs.Sound.{IsSound};
 ghost use Rattle.text_view.specs.SourceNames.{HaveOwnNames};
+ghost use Rattle.source_records.specs.LoneLists.{GivesLoneLists};
 ghost use Rattle.source_records.specs.SourceNames.{IsSourceFile};
 ghost use Rattle.linked_names.specs.Presence.{HasPresentMessages};
 ghost use Rattle.linked_names.specs.SourcePools.{IsSourcePool};
+ghost use Rattle.linked_names.specs.Unset.{HasReadUnset};
 
 /// Names of a pool without files are as sources give them.
 pub fn the_empty_pool_has_source_names()
@@ -66,4 +68,32 @@ pub fn accepted_files_keep_messages_present()
 pub fn settled_pools_keep_messages_present()
     ensures { (old new : PoolType) → IsSettled old new → HasPresentMessages old
         → HasPresentMessages new }
+{}
+
+/// In a pool without files each field without presence is read as not set where a text gives it its
+/// default: it is in no oneof, and the default is a value of its kind.
+pub fn the_empty_pool_has_read_unset()
+    ensures { HasReadUnset empty_pool }
+{}
+
+/// So it stays where no pass finds a fault in the files that are added, and no list in their
+/// records is a member of a oneof.
+pub fn accepted_files_keep_unset_read()
+    ensures { (old new : PoolType) (files : List FileDescriptorProto)
+        → IsSound old → FaultlessFiles old files new
+        → AllByRecursion (λ (f : FileDescriptorProto). GivesLoneLists (file_view f)) files
+        → HasReadUnset old → HasReadUnset new }
+{}
+
+/// And where options are settled.
+pub fn settled_pools_keep_unset_read()
+    ensures { (old new : PoolType) → IsSettled old new → HasReadUnset old → HasReadUnset new }
+{}
+
+/// The options that linking reads itself say nothing of what is in a oneof.
+pub fn typed_options_say_nothing_of_oneofs()
+    ensures { (files typed : List FileDescriptorProto)
+        → TypedFiles files typed
+        → AllByRecursion (λ (f : FileDescriptorProto). GivesLoneLists (file_view f)) files
+        → AllByRecursion (λ (f : FileDescriptorProto). GivesLoneLists (file_view f)) typed }
 {}

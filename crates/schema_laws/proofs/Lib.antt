@@ -2,6 +2,7 @@ pub mod Recoding
 pub mod Encoding
 pub mod Naming
 pub mod PresentMessages
+pub mod ReadUnset
 pub mod AddedBatches
 pub mod RefusedBatches
 pub mod TextsAlike

@@ -1,0 +1,5 @@
+use Rattle.linked_names.proofs.Unset.{accepted_unset}
+use Rattle.linked_names.proofs.laws.accepted_files_keep_unset_read.Goals as goal
+
+pub returns : goal.returns
+returns c = accepted_unset
