@@ -147,7 +147,7 @@ module _ (earlier : List (List FileContent)) (batch : List FileContent) (old new
       let stays : slice_get (map file_view new.records) k ≡ slice_get (map file_view old.records) k =
       front_stays linked new (length old.files) k add.settles first
       ∙ ap (λ (rs : List FileDescriptorProto). slice_get (map file_view rs) k) more.beside ∙ front_map file_view old.records ms k less in
-      let one = before.files k x y (sym stood ∙ is.0) (sym stays ∙ is.1) in
+      let one : IsOneOf earlier x y = before.files k x y (sym stood ∙ is.0) (sym stays ∙ is.1) in
       record { own = one.own; more = batch ∷ one.more; behind = ap (λ (bs : List (List FileContent)). batch ∷ bs) one.behind; last = one.last }
 
   -- one of the batch

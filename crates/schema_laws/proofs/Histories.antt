@@ -93,7 +93,7 @@ came_about (last ∷ earlier) s (old, before, add, pool) =
 -- ---- sources that a schema takes are a batch
 
 pub new_batch : (old new : PoolType) (given : Sources) → SourcesLinked old given new → (batch : List FileContent) × AreNewFilesOf old given batch
-new_batch old new given (files, read, (linked, (typed, copied, (adds, faultless)), settled)) =
+new_batch old new given (files, read, (linked, (typed, copied, (adds, faultless)), settles, settled, bare)) =
     (map file_view (new_files faultless.0.indexes typed), (files, typed, faultless.0, read, copied, faultless.1, refl))
 
 -- and types for all options stay
