@@ -1,9 +1,12 @@
 -- What schemas hold, whatever sources and sets were added to them.
-use Rattle.std.proofs.Common.{List, [], ◌∷◌, map, ap, sym, subst, rules}
+use Rattle.std.proofs.Common.{List, [], ◌∷◌, map, ap, sym, subst, arith, rules}
 use Rattle.descriptor_records.specs.Content.{FileContent, file_view}
 use Rattle.descriptor_records.specs.declared.file.FileDescriptorProto.{FileDescriptorProto}
 use Rattle.linked_alike.specs.ReadOptions.{read_file}
 use Rattle.linked_names.proofs.Accepted.{accepted_apart}
+use Rattle.option_parts.specs.OptionTypes.{CanRead}
+use Rattle.option_parts.specs.declared.option_scope.OptionScope.{OptionScope}
+use Rattle.options_alike.proofs.Settled.{settled_reads}
 use Rattle.plain_records.specs.PlainRecords.{ArePlainFiles}
 use Rattle.reflect_pool.specs.Linked.{empty_pool}
 use Rattle.reflect_tables.specs.Types.{PoolType}
@@ -14,6 +17,9 @@ use Rattle.settled_again.proofs.More.{files_copied, reads_more}
 use Rattle.settled_view.specs.BuiltBut.{ChangesOptions}
 use Rattle.stored_options.specs.CopiedOptions.{ReadsItsBytes}
 use Rattle.text_view.specs.SourceNames.{HaveOwnNames}
+use Rattle.told_messages.specs.ToldMessages.{TellsMessages}
+use Rattle.told_messages.proofs.Accepted.{accepted_tell, empty_tells}
+use Rattle.told_messages.proofs.Stays.{settled_tells}
 use Rattle.types_view.specs.Typed.{IsTyped}
 use Rattle.types_view.proofs.Settled.{empty_typed}
 use Rattle.schema_core.specs.Refusals.{FilesLinked, IsPool, SourcesLinked}
@@ -32,6 +38,8 @@ pub record HasGrown (p : PoolType) : Type 0 where
   pub batches : List (List FileContent)
   pub typed : IsTyped batches p
   pub alike : ReadsAlike typed.but.linked p
+  pub told : TellsMessages p
+  pub reads : (scope : OptionScope) → CanRead p scope
 
 pub empty_is_pool : IsPool empty_pool
 empty_is_pool = record { recorded = search rules; indexed = search rules; kept = search rules }
@@ -44,6 +52,8 @@ empty_grown = record {
   batches = [];
   typed = empty_typed;
   alike = sym (ap (λ (fs : List FileDescriptorProto). map read_file (map file_view fs)) none_linked);
+  told = empty_tells;
+  reads = λ scope m named. let lt = named.0 in absurd (omega (arith, lt));
 }
 
 -- files more, of whose options linking reads what their bytes say
@@ -60,6 +70,8 @@ files_more old new files was pool read plain (linked, (typed, types, (adds, faul
       batches = _;
       typed = m.built;
       alike = m.alike;
+      told = settled_tells linked new.pool changes (accepted_tell old.pool linked typed was.is.recorded was.told faultless);
+      reads = λ scope. settled_reads linked new.pool changes scope (settles.readable scope);
     }
 
 pub sources_more : (old new : Schema) (given : Sources) → HasGrown old.pool → SourcesLinked old.pool given new.pool → IsPool new.pool → HasGrown new.pool

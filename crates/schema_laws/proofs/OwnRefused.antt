@@ -1,5 +1,5 @@
--- The set of a schema that sources made is not refused.
-use Rattle.std.proofs.Common.{rules, ◌≡◌, ◌<◌, ◌^◌, ◌⊎◌, ◌∙◌, ℕ, List, [], true, map, length, Option, None, Some, inl, inr, ap, sym, subst}
+-- The set of a schema that holds its options is not refused.
+use Rattle.std.proofs.Common.{rules, ◌≡◌, ◌<◌, ◌^◌, ◌⊎◌, ◌∙◌, List, [], true, map, length, Option, None, Some, inl, inr, ap, sym, subst}
 use Rattle.descriptor_records.specs.Content.{file_view}
 use Rattle.descriptor_records.specs.declared.file.FileDescriptorProto.{FileDescriptorProto}
 use Rattle.linked_alike.specs.ReadOptions.{read_file}
@@ -32,6 +32,7 @@ use Rattle.reflect_wire.specs.Written.{AreBytes}
 use Rattle.reflect_wire.specs.declared.wire_error.WireError.{WireError}
 use Rattle.reflect_wire.specs.declared.wire_error.WireError.TheVariants as wire
 use Rattle.schema_view.specs.Lawful.{IsLawful}
+use Rattle.settled_again.specs.HeldOptions.{HoldsOptions}
 use Rattle.settled_again.proofs.Again.{all_new, linked_same, names_again}
 use Rattle.settled_again.proofs.Taken.{not_refused}
 use Rattle.settled_again.proofs.TypedAgain.{typed_again}
@@ -42,28 +43,24 @@ use Rattle.told_messages.proofs.Accepted.{accepted_tell, empty_tells}
 use Rattle.told_messages.proofs.Numbers.{keep_alike}
 use Rattle.types_view.specs.Pools.{IsBuiltBut}
 use Rattle.types_view.proofs.Settled.{IsTypedMore, empty_typed, typed_more}
-use Rattle.schema_core.specs.Refusals.{IsNoSet, IsPool, SetRefused, SourcesLinked}
+use Rattle.schema_core.specs.Refusals.{IsNoSet, IsPool, SetRefused}
 use Rattle.schema_core.specs.declared.error.SchemaError.{SchemaError}
 use Rattle.schema_core.specs.declared.error.SchemaError.TheVariants.{Link, Memory, Options, TooLong, Wire}
 use Rattle.schema_core.specs.declared.schema.Schema.{Schema}
-use Rattle.schema_laws.proofs.Grown.{HasGrown}
-use Rattle.schema_laws.proofs.MadeOf.{IsMade, made}
+use Rattle.schema_laws.proofs.Grown.{HasGrown, grown}
 use Rattle.schema_laws.proofs.OwnSets.{own_read, own_same}
 use Rattle.schema_laws.proofs.RefusedBatches.{no_batch}
 use Rattle.schema_laws.specs.Batches.{AreUnlawful}
 use Rattle.schema_laws.specs.Detours.{TellsMemory}
-use Rattle.schema_laws.specs.Histories.{IsMadeBy, Sources}
+use Rattle.schema_laws.specs.Histories.{IsGrown}
 
 -- nothing was linked into a pool without files, nor settled in it
 abbrev unlinked : IsBuiltBut [] empty_pool
 unlinked = record { linked = empty_pool; built = empty_built; settles = itself empty_pool }
 
-module _ (batches : List Sources) (s : Schema) (is : IsMadeBy SourcesLinked batches s) (short : length (pool_bytes s.pool) < 2 ^ 64) where
-  abbrev m : IsMade s.pool
-  m = made batches s is
-
+module _ (s : Schema) (is : IsGrown s) (held : HoldsOptions s.pool) (short : length (pool_bytes s.pool) < 2 ^ 64) where
   abbrev own : HasGrown s.pool
-  own = m.grown
+  own = grown is.0 s is.1
 
   own_bytes : (e : WireError) → IsNoSet (pool_bytes s.pool) e → ⊥
   own_bytes e none = none.0 s.pool.records (own_read s own.plain short)
@@ -112,12 +109,12 @@ module _ (batches : List Sources) (s : Schema) (is : IsMadeBy SourcesLinked batc
     -- it reads the options that the schema read
     reads : (scope : OptionScope) → CanRead linked scope
     reads scope =
-        read_alike s.pool linked s.sound sound names (keep_alike s.pool linked typed m.told told faultless pool.recorded pool.indexed pool.kept records) scope (m.reads scope)
+        read_alike s.pool linked s.sound sound names (keep_alike s.pool linked typed own.told told faultless pool.recorded pool.indexed pool.kept records) scope (own.reads scope)
 
     own_options : ArePlainFiles StoresBytes (map file_view s.pool.records) → (place : Option Place) (e : OptionErrorKind) → (e ≡ UndecodableOptions (Some wire.Memory) → ⊥) → RefusesFrom linked 0 place e → ⊥
     own_options bytes None e other (scope, tells, cannot) = cannot (reads scope)
     own_options bytes (Some place) e other refuses =
-        not_refused own.batches s.pool linked files typed own.typed own.is.kept own.plain m.held own.alike bytes same copied faultless pool.recorded pool.indexed pool.kept sound reads place e other refuses
+        not_refused own.batches s.pool linked files typed own.typed own.is.kept own.plain held own.alike bytes same copied faultless pool.recorded pool.indexed pool.kept sound reads place e other refuses
 
   -- ---- the whole
   pub own_refused : AreBytes (pool_bytes s.pool) → (e : SchemaError) → (TellsMemory e → ⊥) → SetRefused empty_pool (pool_bytes s.pool) e

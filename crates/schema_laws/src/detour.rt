@@ -17,6 +17,7 @@ ghost use Rattle.reflect_wire.specs.declared.wire_error.WireError.{WireError};
 ghost use Rattle.reflect_wire.specs.declared.wire_error.WireError.TheVariants as wire;
 ghost use Rattle.text_error.specs.declared.error.ParseErrorKind.{ParseErrorKind};
 ghost use Rattle.text_error.specs.declared.error.ParseErrorKind.TheVariants as kinds;
+ghost use Rattle.settled_again.specs.HeldOptions.{HoldsOptions};
 ghost use Rattle.text_view.specs.Schemas.{schema_of};
 ghost use Rattle.schema_core.specs.Payloads.{Decoded, Encoded, Recoded};
 ghost use Rattle.schema_core.specs.Refusals.{IsNoMessage, IsNoText, SetRefused, SourcesLinked};
@@ -32,20 +33,27 @@ pub fn schemas_of_sources_are_grown()
         → IsMadeBy AdditionLinked (map of_sources batches) s }
 {}
 
-/// Where sources alone made the schema, the set is not refused, unless memory runs out, or its
-/// files declare more together than one batch may.
-pub fn own_sets_are_not_refused()
+/// And it holds its options as they stand in a set: stored as their types write them, or as sources
+/// give them.
+pub fn schemas_of_sources_hold_their_options()
     ensures { (batches : List Sources) (s : Schema) → IsMadeBy SourcesLinked batches s
+        → HoldsOptions s.pool }
+{}
+
+/// Where a schema holds its options so, the set is not refused, unless memory runs out, or its files
+/// declare more together than one batch may.
+pub fn own_sets_are_not_refused()
+    ensures { (s : Schema) → IsGrown s → HoldsOptions s.pool
         → AreBytes (pool_bytes s.pool) → length (pool_bytes s.pool) < 2 ^ 64
         → (e : SchemaError) → (TellsMemory e → ⊥) → SetRefused empty_pool (pool_bytes s.pool) e
         → (files : List FileDescriptorProto)
         × (map file_view files ≡ map file_view s.pool.records) × AreTooMany empty_pool files }
 {}
 
-/// The schema of the set has the same types, and says the same to texts, whatever made the first;
-/// where sources alone did, it has the records that were written, so that its own set is the same.
+/// The schema of the set has the same types, and says the same to texts; and where the first holds
+/// its options so, it has the records that were written, so that its own set is the same.
 pub fn own_sets_give_the_same_schema()
-    ensures records { (batches : List Sources) (s t : Schema) → IsMadeBy SourcesLinked batches s
+    ensures records { (s t : Schema) → IsGrown s → HoldsOptions s.pool
         → IsDetour s t → AreBytes (pool_bytes s.pool)
         → map file_view t.pool.records ≡ map file_view s.pool.records }
     ensures types { (s t : Schema) → IsGrown s → IsDetour s t
