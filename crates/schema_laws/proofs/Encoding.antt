@@ -95,13 +95,15 @@ module _ (p : PoolType) (sound : IsSound p) (decoded : Name → List ℕ → Opt
       (subst (λ (q : PoolType). IsShown q (name_at q d.index) bytes text) there given)
 
   -- what is encoded is accepted, as what the text gives
-  pub accepted : (name text out : List ℕ) → Encoded p name text out → length out < 2 ^ 64
-      → (m : Message) × Gives w (without_dot name) text m × Mean (types_of p) (without_dot name) out m
-  accepted name text out encodes short =
-      let x = encoded name text out encodes in
+  means_given : (name text out : List ℕ) (x : IsGiven p decoded (without_dot name) text out) → length out < 2 ^ 64 → Mean (types_of p) (without_dot name) out x.0
+  means_given name text out x short =
       let suits = given_suits w (sound_types p sound decoded) (without_dot name) text x.0 x.1 in
       let means = bytes_mean (types_of p) (without_dot name) x.0 suits (subst (λ b. length b < 2 ^ 64) x.2 short) in
-      (x.0, x.1, subst (λ b. Mean (types_of p) (without_dot name) b x.0) (sym x.2) means)
+      subst (λ b. Mean (types_of p) (without_dot name) b x.0) (sym x.2) means
+
+  pub accepted : (name text out : List ℕ) → Encoded p name text out → length out < 2 ^ 64
+      → (m : Message) × Gives w (without_dot name) text m × Mean (types_of p) (without_dot name) out m
+  accepted name text out encodes short = let x = encoded name text out encodes in (x.0, x.1, means_given name text out x short)
 
   module _ (named : HasSourceNames p) (name bytes text : List ℕ) (are : AreBytes bytes) (reads : Decoded p name bytes text)
       (m : Message) (means : Mean (types_of p) (without_dot name) bytes m) (plain : IsPlain (types_of p) (without_dot name) m)
@@ -131,28 +133,27 @@ module _ (p : PoolType) (sound : IsSound p) (decoded : Name → List ℕ → Opt
 
   module _ (named : HasSourceNames p) (name text out reprint : List ℕ) (small : AreBytes text) (encodes : Encoded p name text out) (short : length out < 2 ^ 64)
       (reads : Decoded p name out reprint) (shallow : IsShallow w (without_dot name) text) where
-    first : (m : Message) × Gives w (without_dot name) text m × Mean (types_of p) (without_dot name) out m
-    first = accepted name text out encodes short
+    abbrev u : Name
+    u = without_dot name
 
-    plain_first : IsPlain (types_of p) (without_dot name) first.0
-    plain_first = given_plain w (sound_types p sound decoded) (small_defaults p sound named) (without_dot name) text first.0 (bytes_small_too text small) first.1
+    first : IsGiven p decoded u text out
+    first = encoded name text out encodes
+
+    plain_first : IsPlain (types_of p) u first.0
+    plain_first = given_plain w (sound_types p sound decoded) (small_defaults p sound named) u text first.0 (bytes_small_too text small) first.1
 
     out_small : AreBytes out
     out_small =
-        let x = encoded name text out encodes in
-        let suits = given_suits w (sound_types p sound decoded) (without_dot name) text x.0 x.1 in
-        let plain = given_plain w (sound_types p sound decoded) (small_defaults p sound named) (without_dot name) text x.0 (bytes_small_too text small) x.1 in
-        subst AreBytes (sym x.2) (small_bytes (bytes_of (types_of p) (without_dot name) x.0) (bytes_small 100 (types_of p) (without_dot name) x.0 suits plain))
+        let suits = given_suits w (sound_types p sound decoded) u text first.0 first.1 in
+        subst AreBytes (sym first.2) (small_bytes (bytes_of (types_of p) u first.0) (bytes_small 100 (types_of p) u first.0 suits plain_first))
 
-    given_again : Gives w (without_dot name) reprint first.0
-    given_again = gives named name out reprint out_small reads first.0 first.2 plain_first (shallow first.0 first.1)
+    given_again : Gives w u reprint first.0
+    given_again = gives named name out reprint out_small reads first.0 (means_given name text out first short) plain_first (shallow first.0 first.1)
 
     pub same_again : (again : List ℕ) → Encoded p name reprint again → again ≡ out
     same_again again encodes_again =
-        let x = encoded name text out encodes in
         let y = encoded name reprint again encodes_again in
-        let t = without_dot name in
-        y.2 ∙ ap (bytes_of (types_of p) (without_dot name)) (one_message w (without_dot name) nothing reprint y.0 first.0 y.1 given_again ∙ one_message w (without_dot name) nothing text first.0 x.0 first.1 x.1) ∙ sym x.2
+        y.2 ∙ ap (bytes_of (types_of p) u) (one_message w u nothing reprint y.0 first.0 y.1 given_again) ∙ sym first.2
 
     pub taken_again : (kind : ParseErrorKind) → (kind ≡ kinds.Memory → ⊥) → IsNoText p name reprint kind → ⊥
     taken_again kind other no_text = refused name reprint kind other no_text first.0 given_again

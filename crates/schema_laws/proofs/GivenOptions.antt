@@ -10,11 +10,12 @@ use Rattle.reflect_bytes.specs.Spelled.{SpellsSet}
 use Rattle.stored_options.specs.CopiedOptions.{ReadsItsBytes}
 use Rattle.stored_options.proofs.Copied.{set_reads, source_reads}
 use Rattle.schema_core.specs.Refusals.{AreFilesOf}
-use Rattle.schema_laws.proofs.MadeOf.{options_of}
+use Rattle.schema_laws.specs.Histories.{Sources}
 use Rattle.schema_laws.proofs.PlainRecords.{set_options}
+use Rattle.schema_laws.proofs.SourceFiles.{options_of}
 
 -- of both linking reads what their bytes say
-pub sources_read : (sources : List (List ℕ × List ℕ)) (files : List FileDescriptorProto) → AreFilesOf sources files → ArePlainFiles ReadsItsBytes (map file_view files)
+pub sources_read : (sources : Sources) (files : List FileDescriptorProto) → AreFilesOf sources files → ArePlainFiles ReadsItsBytes (map file_view files)
 sources_read sources files are =
     files_weaker AreOfSource ReadsItsBytes (λ scope o is. source_reads scope o is.0) (map file_view files) (options_of sources files are)
 

@@ -1,5 +1,5 @@
--- Schemas that `Schema::new` made, and that sources were added to since, came about batch by batch.
-use Rattle.std.proofs.Common.{◌≡◌, ◌∙◌, ℕ, List, [], ◌∷◌, Bool, true, map, None, Some, Option, cond, not, ap, refl, sym, subst}
+-- Schemas that sources made with types for all options came about batch by batch.
+use Rattle.std.proofs.Common.{◌≡◌, ◌∙◌, List, [], ◌∷◌, Bool, true, map, None, Some, not, ap, refl, sym, subst}
 use Rattle.std.proofs.Math.Path.{fun_ext}
 use Rattle.std.specs.List.{filter}
 use Rattle.std.specs.Prelude.{is_some, option_map, string_bytes}
@@ -7,10 +7,10 @@ use Rattle.descriptor_records.specs.Content.{FileContent, file_view}
 use Rattle.descriptor_records.specs.declared.file.FileDescriptorProto.{FileDescriptorProto}
 use Rattle.linked_names.specs.SourcePools.{IsSourcePool}
 use Rattle.linked_records.proofs.Typed.{typed_given}
-use Rattle.message_view.specs.Sound.{IsSound}
-use Rattle.option_parts.specs.OptionTypes.{ReadsOptions}
+use Rattle.option_parts.specs.OptionTypes.{CanRead, ReadsOptions}
 use Rattle.option_parts.specs.TypedOptions.{TypedFiles, typed_file}
 use Rattle.option_parts.specs.declared.option_scope.OptionScope.{OptionScope}
+use Rattle.options_alike.proofs.Settled.{settled_reads}
 use Rattle.protox_laws.proofs.Sources.{same_record}
 use Rattle.reflect_build.specs.Refusals.{IsOf, Linking, is_unknown, new_files}
 use Rattle.reflect_build.proofs.Parted.{one_new}
@@ -24,11 +24,11 @@ use Rattle.types_view.specs.Typed.{IsTyped}
 use Rattle.types_view.proofs.Pools.{empty_sound}
 use Rattle.schema_core.specs.Refusals.{AreFilesOf, IsPool, SourcesLinked}
 use Rattle.schema_core.specs.declared.schema.Schema.{Schema}
-use Rattle.schema_laws.specs.Histories.{AddsSources, AreNewFilesOf, IsHistory}
+use Rattle.schema_laws.specs.Histories.{AreNewFilesOf, BatchLinked, IsMadeBy, Sources}
 use Rattle.schema_laws.proofs.AddedBatches.{linked_batch}
-use Rattle.schema_laws.proofs.BatchFiles.{AddsBatch, IsMade, made_more, none_made}
-use Rattle.schema_laws.proofs.MadeOf.{options_of}
-use Rattle.schema_laws.proofs.Naming.{empty_sources, named_by_sources}
+use Rattle.schema_laws.proofs.BatchFiles.{AddsBatch, CameAbout, came_more, none_came}
+use Rattle.schema_laws.proofs.Naming.{named_by_sources}
+use Rattle.schema_laws.proofs.SourceFiles.{options_of}
 
 -- ---- sources are one list of new files
 
@@ -44,7 +44,7 @@ new_seen : (indexes : Indexes) (fs : List FileDescriptorProto) → map file_view
 new_seen indexes fs =
     ap (λ (p : FileDescriptorProto → Bool). map file_view (filter p fs)) (fun_ext (lacked indexes)) ∙ map-filter file_view (lacks indexes) fs
 
-one_list : (sources : List (List ℕ × List ℕ)) (fs gs : List FileDescriptorProto) → AreFilesOf sources fs → AreFilesOf sources gs → map file_view fs ≡ map file_view gs
+one_list : (sources : Sources) (fs gs : List FileDescriptorProto) → AreFilesOf sources fs → AreFilesOf sources gs → map file_view fs ≡ map file_view gs
 one_list [] [] [] are also = refl
 one_list [] [] (g ∷ gs) are also = absurd also
 one_list [] (f ∷ fs) gs are also = absurd are
@@ -55,7 +55,7 @@ one_list (s ∷ ss) (f ∷ fs) (g ∷ gs) are also =
     let rest : map file_view fs ≡ map file_view gs = one_list ss fs gs are.1 also.1 in
     cc (first, rest)
 
-one_batch : (p : PoolType) (sources : List (List ℕ × List ℕ)) (files typed : List FileDescriptorProto) (w : Linking) (batch : List FileContent)
+one_batch : (p : PoolType) (sources : Sources) (files typed : List FileDescriptorProto) (w : Linking) (batch : List FileContent)
     → AreFilesOf sources files → TypedFiles files typed → IsOf p w → AreNewFilesOf p sources batch → map file_view (new_files w.indexes typed) ≡ batch
 one_batch p sources files typed w batch are copied of (others, ones, v, also, same, its, is) =
     let seen : map file_view typed ≡ map file_view ones = copied ∙ ap (map typed_file) (one_list sources files others are also) ∙ sym same in
@@ -64,79 +64,51 @@ one_batch p sources files typed w batch are copied of (others, ones, v, also, sa
 
 -- ---- one batch
 
-adds_batch : (old : PoolType) (new : Schema) (batch : List FileContent) → IsSound old → IsSourcePool old → ((scope : OptionScope) → HasType new.pool scope)
-    → AddsSources old new batch → AddsBatch old new.pool batch
-adds_batch old new batch sound named types add = by add.linked
+adds_batch : (old new : Schema) (batch : List FileContent) → IsSourcePool old.pool → BatchLinked old.pool batch new.pool → IsPool new.pool → AddsBatch old.pool new.pool batch
+adds_batch old new batch named add pool = by add.linked
   where
-    by : SourcesLinked old add.sources new.pool → AddsBatch old new.pool batch
+    by : SourcesLinked old.pool add.given new.pool → AddsBatch old.pool new.pool batch
     by (files, read, (linked, (typed, copied, (adds, faultless)), settles, settled, bare)) = record {
       linked = linked;
       typed = typed;
-      linking = faultless.0;
-      of = faultless.1;
-      added = one_batch old add.sources files typed faultless.0 batch read copied faultless.1 add.files;
-      given = typed_given files typed (options_of add.sources files read) copied;
       faultless = faultless;
-      types = λ scope. subst (λ p. HasType p scope) settled (types scope);
+      added = one_batch old.pool add.given files typed faultless.0 batch read copied faultless.1 add.files;
+      given = typed_given files typed (options_of add.given files read) copied;
+      types = λ scope. subst (λ p. HasType p scope) settled ((add.types scope).0, (add.types scope).1);
       settles = settles;
       changes = record { settled = settled; bare = bare };
-      is = add.pool;
+      is = pool;
       sound = new.sound;
-      names = (named_by_sources old new.pool add.sources sound add.linked named).names.distinct;
+      named = named_by_sources old.pool new.pool add.given old.sound add.linked named;
     }
 
 -- ---- all of them
 
--- what is so of the pool of such a schema
-pub record CameAbout (batches : List (List FileContent)) (s : Schema) : Type 0 where
-  pub made : IsMade batches s.pool
-  pub named : IsSourcePool s.pool
-  pub is : IsPool s.pool
-  pub types : (scope : OptionScope) → HasType s.pool scope
-
-first_batch : (batch : List FileContent) (s : Schema) → AddsSources empty_pool s batch → ((scope : OptionScope) → ReadsOptions s.pool scope) → CameAbout (batch ∷ []) s
-first_batch batch s add reads =
-    let types : (scope : OptionScope) → HasType s.pool scope = λ scope. ((reads scope).0, (reads scope).1) in
-    record {
-      made = made_more [] batch empty_pool s.pool none_made (adds_batch empty_pool s batch empty_sound empty_sources types add);
-      named = named_by_sources empty_pool s.pool add.sources empty_sound add.linked empty_sources;
-      is = add.pool;
-      types = types;
-    }
-
--- types for options stay
-types_stay : (earlier : List (List FileContent)) (old new : Schema) (batch : List FileContent) → IsTyped earlier old.pool → IsPool old.pool
-    → ((scope : OptionScope) → HasType old.pool scope) → AddsSources old.pool new batch → (scope : OptionScope) → HasType new.pool scope
-types_stay earlier old new batch was is types add scope = by add.linked
-  where
-    by : SourcesLinked old.pool add.sources new.pool → HasType new.pool scope
-    by (files, read, linked) =
-        let b = linked_batch earlier old.pool new.pool files was add.pool linked in
-        type_stays earlier (map file_view (new_files b.linking.indexes b.typed)) old.pool new.pool was b.built is.kept add.pool.kept scope (types scope)
-
-further_batch : (batch : List FileContent) (earlier : List (List FileContent)) (old s : Schema) → CameAbout earlier old → AddsSources old.pool s batch → CameAbout (batch ∷ earlier) s
-further_batch batch earlier old s came add =
-    let types : (scope : OptionScope) → HasType s.pool scope = types_stay earlier old s batch came.made.typed came.is came.types add in
-    record {
-      made = made_more earlier batch old.pool s.pool came.made (adds_batch old.pool s batch old.sound came.named types add);
-      named = named_by_sources old.pool s.pool add.sources old.sound add.linked came.named;
-      is = add.pool;
-      types = types;
-    }
-
-pub came_about : (batches : List (List FileContent)) (s : Schema) → IsHistory batches s → CameAbout batches s
-came_about [] s is = absurd is
-came_about (batch ∷ []) s (add, reads) = first_batch batch s add reads
-came_about (batch ∷ last ∷ earlier) s (old, before, add) = further_batch batch (last ∷ earlier) old s (came_about (last ∷ earlier) old before) add
+pub came_about : (batches : List (List FileContent)) (s : Schema) → IsMadeBy BatchLinked batches s → CameAbout batches s.pool
+came_about [] s is = subst (CameAbout []) (sym is) none_came
+came_about (last ∷ earlier) s (old, before, add, pool) =
+    let was = came_about earlier old before in
+    came_more earlier last old.pool s.pool was (adds_batch old s last was.named add pool)
 
 -- ---- sources that a schema takes are a batch
 
-pub new_batch : (old : PoolType) (new : Schema) (sources : List (List ℕ × List ℕ)) → IsPool new.pool → SourcesLinked old sources new.pool
-    → (batch : List FileContent) × AreNewFilesOf old sources batch × AddsSources old new batch
-new_batch old new sources is linked = by linked
+pub new_batch : (old new : PoolType) (given : Sources) → SourcesLinked old given new → (batch : List FileContent) × AreNewFilesOf old given batch
+new_batch old new given (files, read, (linked, (typed, copied, (adds, faultless)), settles, settled, bare)) =
+    (map file_view (new_files faultless.0.indexes typed), (files, typed, faultless.0, read, copied, faultless.1, refl))
+
+-- and types for all options stay
+pub types_stay : (earlier : List (List FileContent)) (old new : Schema) (given : Sources) → IsTyped earlier old.pool → IsPool old.pool → ((scope : OptionScope) → ReadsOptions old.pool scope)
+    → IsPool new.pool → SourcesLinked old.pool given new.pool → (scope : OptionScope) → ReadsOptions new.pool scope
+types_stay earlier old new given was is reads pool linked scope = by linked
   where
-    by : SourcesLinked old sources new.pool → (batch : List FileContent) × AreNewFilesOf old sources batch × AddsSources old new batch
-    by (files, read, (pool, (typed, copied, (adds, faultless)), settles, settled, bare)) =
-        let batch : List FileContent = map file_view (new_files faultless.0.indexes typed) in
-        let are : AreNewFilesOf old sources batch = (files, typed, faultless.0, read, copied, faultless.1, refl) in
-        (batch, are, record { sources = sources; linked = linked; files = are; pool = is })
+    by : SourcesLinked old.pool given new.pool → ReadsOptions new.pool scope
+    by (files, read, fit) =
+        let b = linked_batch earlier old.pool new.pool files was pool fit in
+        let has : HasType new.pool scope =
+        type_stays earlier (map file_view (new_files b.linking.indexes b.typed)) old.pool new.pool was b.built is.kept pool.kept scope ((reads scope).0, (reads scope).1) in
+        let can : CanRead new.pool scope = settled_reads fit.0 new.pool (record { settled = fit.3; bare = fit.4 }) scope (fit.2.readable scope) in
+        (has.0, has.1, can has.0 has.1)
+
+-- a schema without files, before the first
+abbrev pub without_files : Schema → Schema
+without_files s = record { alloc = s.alloc; pool = empty_pool; sound = empty_sound }

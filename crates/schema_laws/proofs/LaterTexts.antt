@@ -1,5 +1,5 @@
 -- What a schema encoded a text to, a schema of further batches encodes it to.
-use Rattle.std.proofs.Common.{◌≡◌, ◌∙◌, ℕ, List, ◌++◌, Bool, true, Option, Some, None, bytes_eq, map, option_map, ap, sym, subst, refl, get_or, slice_get}
+use Rattle.std.proofs.Common.{◌≡◌, ◌∙◌, ℕ, List, ◌++◌, Bool, true, Option, Some, None, bytes_eq, map, option_map, ap, sym, subst, refl, get_or}
 use Rattle.std.specs.List.{find}
 use Rattle.std.proofs.lemmas.Option.{slice_get-get_or}
 use Rattle.std.proofs.lemmas.Slice.Eq.{bytes_eq-Decides}

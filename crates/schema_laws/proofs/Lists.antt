@@ -1,5 +1,6 @@
--- What stands at a place of a list that was made of two, or seen through a function.
+-- What stands in a list, at a place of one that was made of two, or seen through a function.
 use Rattle.std.proofs.Common.{◌≡◌, ◌≤◌, ◌<◌, ◌++◌, ◌∙◌, ℕ, zero, suc, List, [], ◌∷◌, map, length, Some, slice_get, ap, refl, sym, arith}
+use Rattle.std.specs.List.{AllByRecursion}
 use Rattle.reflect_index.proofs.Among.{get_map, got_map}
 
 -- in the first of two
@@ -23,3 +24,8 @@ twin view told xs us same k y there =
     let x = got_map view xs k y there in
     let u = got_map told us k (told x.0) (ap (λ ts. slice_get ts k) (sym same) ∙ get_map told xs k x.0 x.1) in
     (view u.0, get_map view us k u.0 u.1)
+
+-- what follows of what is seen of each is so of all
+pub all_from : {A B : Type 0} (view : A → B) (P : B → Type 0) (Q : A → Type 0) → ((x : A) → P (view x) → Q x) → (xs : List A) → AllByRecursion P (map view xs) → AllByRecursion Q xs
+all_from view P Q from [] all = tt
+all_from view P Q from (x ∷ xs) all = (from x all.0, all_from view P Q from xs all.1)

@@ -1,6 +1,5 @@
 -- A file that was linked to one content in two pools of the same files in the end settled to one content.
 use Rattle.std.proofs.Common.{◌≡◌, ◌<◌, ◌++◌, ◌∙◌, ℕ, List, [], ◌∷◌, map, length, None, Some, slice_get, ap, refl, sym, subst, arith, Contains}
-use Rattle.std.proofs.lemmas.List.{length-map}
 use Rattle.std.proofs.lemmas.Option.{same_Some}
 use Rattle.std.proofs.lemmas.List.Elements.{recursion_from_All}
 use Rattle.std.specs.List.{AllByRecursion, AllZip}
@@ -39,7 +38,8 @@ use Rattle.settled_records.proofs.AllOptions.{Said, file_keeps}
 use Rattle.settled_records.proofs.InEntities.{entities_of}
 use Rattle.settled_records.proofs.OfEntities.{Meets}
 use Rattle.settled_records.proofs.PlainOptions.{file_of, said}
-use Rattle.schema_laws.proofs.BatchFiles.{IsOneOf}
+use Rattle.schema_laws.proofs.BatchFiles.{IsOfLast, IsOneOf}
+use Rattle.schema_laws.proofs.PlainRecords.{as_many}
 
 -- ---- options of a file as sources gave it
 -- of the file of an index, and as a source gives them
@@ -59,26 +59,27 @@ types_settle p scope has s o is stay =
     (recursion_from_All (λ (m : MessageType). m.full_name ≡ type_name scope → ⊥) p.messages none) has.1.0 (has.1.1.0 no_type)
 
 -- ---- the file's place
-module _ (batches : List (List FileContent)) (x y : FileContent) (a : IsOneOf batches x y) where
+module _ (batches : List (List FileContent)) (x y : FileContent) (a : IsOfLast batches x y) where
   near : a.index < length a.pool.files
   near =
-      let less : a.index < length a.pool.records = get_less a.pool.records a.index a.file a.there in
-      let many : length a.pool.files ≡ length a.pool.records = ap (λ (fs : List FileType). length fs) a.is.recorded.headers ∙ length-map a.pool.records record_file in
+      let less : a.index < length a.pool.records = get_less a.pool.records a.index a.stood.file a.stood.there in
+      let many : length a.pool.files ≡ length a.pool.records = as_many a.pool a.linked.is.recorded in
       omega (arith, less, many)
 
   named : slice_get (names_of_files a.pool.files) a.index ≡ Some (header_told x).name
   named =
-      ap (λ (fs : List FileType). slice_get (names_of_files fs) a.index) a.is.recorded.headers
-      ∙ get_map (λ (f : FileType). f.name) (map record_file a.pool.records) a.index (record_file a.file) (get_map record_file a.pool.records a.index a.file a.there)
-      ∙ ap (λ (f : FileType). Some f.name) (header_seen a.file) ∙ ap (λ (c : FileContent). Some (header_told c).name) a.content
+      let f = a.stood.file in
+      ap (λ (fs : List FileType). slice_get (names_of_files fs) a.index) a.linked.is.recorded.headers
+      ∙ get_map (λ (f : FileType). f.name) (map record_file a.pool.records) a.index (record_file f) (get_map record_file a.pool.records a.index f a.stood.there)
+      ∙ ap (λ (f : FileType). Some f.name) (header_seen f) ∙ ap (λ (c : FileContent). Some (header_told c).name) a.stood.content
 
   -- names in the options of its entities are looked up there
-  stands : (s : NameScope) (c : Entity) → c.file ≡ a.index → IsScopeOf a.pool c s → StandsIn a.own a.pool s (header_told x).name c.name
+  stands : (s : NameScope) (c : Entity) → c.file ≡ a.index → IsScopeOf a.pool c s → StandsIn batches a.pool s (header_told x).name c.name
   stands s c own scope = record {
-    typed = a.typed;
-    recorded = a.is.recorded;
-    indexed = a.is.indexed;
-    kept = a.is.kept;
+    typed = a.linked.typed;
+    recorded = a.linked.is.recorded;
+    indexed = a.linked.is.indexed;
+    kept = a.linked.is.kept;
     index = a.index;
     there = named;
     in_pool = scope.pool;
@@ -88,39 +89,45 @@ module _ (batches : List (List FileContent)) (x y : FileContent) (a : IsOneOf ba
 
 -- ---- in both pools
 module _ (batches others : List (List FileContent)) (after last : List FileContent) (plain : (f : FileContent) → Contains (sources batches) f → HasPlainName f)
-    (same : SameFiles (sources batches) (sources others)) (built : Builds batches after) (also : Builds others last) (x y z : FileContent) (a : IsOneOf batches x y) (b : IsOneOf others x z) where
-  ends : HaveOneEnd a.own b.own
+    (same : SameFiles (sources batches) (sources others)) (built : Builds batches after) (also : Builds others last) (x y z : FileContent) (one : IsOneOf batches x y) (other : IsOneOf others x z) where
+  abbrev a : IsOfLast one.own x y
+  a = one.last
+
+  abbrev b : IsOfLast other.own x z
+  b = other.last
+
+  ends : HaveOneEnd one.own other.own
   ends = record {
-    more = a.more;
-    further = b.more;
+    more = one.more;
+    further = other.more;
     after = after;
     last = last;
-    built = subst (λ (bs : List (List FileContent)). Builds bs after) (sym a.behind) built;
-    also = subst (λ (bs : List (List FileContent)). Builds bs last) (sym b.behind) also;
-    plain = subst (λ (bs : List (List FileContent)). (f : FileContent) → Contains (sources bs) f → HasPlainName f) (sym a.behind) plain;
-    same = subst (λ (bs : List (List FileContent)). SameFiles (sources bs) (sources (b.more ++ b.own))) (sym a.behind)
-        (subst (λ (bs : List (List FileContent)). SameFiles (sources batches) (sources bs)) (sym b.behind) same);
+    built = subst (λ (bs : List (List FileContent)). Builds bs after) (sym one.behind) built;
+    also = subst (λ (bs : List (List FileContent)). Builds bs last) (sym other.behind) also;
+    plain = subst (λ (bs : List (List FileContent)). (f : FileContent) → Contains (sources bs) f → HasPlainName f) (sym one.behind) plain;
+    same = subst (λ (bs : List (List FileContent)). SameFiles (sources bs) (sources (other.more ++ other.own))) (sym one.behind)
+        (subst (λ (bs : List (List FileContent)). SameFiles (sources batches) (sources bs)) (sym other.behind) same);
   }
 
-  content : file_view a.file ≡ file_view b.file
-  content = a.content ∙ sym b.content
+  content : file_view a.stood.file ≡ file_view b.stood.file
+  content = a.stood.content ∙ sym b.stood.content
 
   entity_settles : (c d : Entity) → IsSameEntity c d → Meets (Own a.index) c → Meets (Own b.index) d → SettleAlike a.pool b.pool c d
   entity_settles c d e own its = record {
-    here = λ o s has scope stay. types_settle a.pool c.scope (a.types c.scope) s o scope.pool stay;
-    there = λ o s has scope stay. types_settle b.pool d.scope (b.types d.scope) s o scope.pool stay;
-    alike = λ o w settled other s t paths ways has have scope range settles also_settles. (
+    here = λ o s has scope stay. types_settle a.pool c.scope (a.linked.types c.scope) s o scope.pool stay;
+    there = λ o s has scope stay. types_settle b.pool d.scope (b.linked.types d.scope) s o scope.pool stay;
+    alike = λ o w settled differs s t paths ways has have scope range settles also_settles. (
         let mine : (c.file ≡ a.index) × AreGiven c.scope (options_view o) = own o has in
         let theirs : (d.file ≡ b.index) × AreGiven d.scope (options_view w) = its w have in
-        let one : options_view w ≡ options_view o =
+        let one_view : options_view w ≡ options_view o =
         same_Some (options_view w) (options_view o) (sym (ap (option_map options_view) have) ∙ sym e.options ∙ ap (option_map options_view) has) in
-        let here : StandsIn a.own a.pool s (header_told x).name c.name = stands batches x y a s c mine.0 scope in
-        let there : StandsIn b.own b.pool t (header_told x).name c.name =
-        subst (λ (n : Text). StandsIn b.own b.pool t (header_told x).name n) (sym e.name) (stands others x z b t d theirs.0 range) in
-        let second : Settles c.scope t w (options_view other) ways = subst (λ (v : OptionScope). Settles v t w (options_view other) ways) (sym e.scope) also_settles in
-        given_alike a.own b.own a.pool b.pool s t (header_told x).name c.name c.scope o w settled other paths ways ends here there
-        (lead_alike a.own b.own a.pool b.pool s t (header_told x).name c.name ends here there)
-        a.sound b.sound a.names b.names (a.settles.readable c.scope) (b.settles.readable c.scope) mine.1 one settles second);
+        let here : StandsIn one.own a.pool s (header_told x).name c.name = stands one.own x y a s c mine.0 scope in
+        let there : StandsIn other.own b.pool t (header_told x).name c.name =
+        subst (λ (n : Text). StandsIn other.own b.pool t (header_told x).name n) (sym e.name) (stands other.own x z b t d theirs.0 range) in
+        let second : Settles c.scope t w (options_view differs) ways = subst (λ (v : OptionScope). Settles v t w (options_view differs) ways) (sym e.scope) also_settles in
+        given_alike one.own other.own a.pool b.pool s t (header_told x).name c.name c.scope o w settled differs paths ways ends here there
+        (lead_alike one.own other.own a.pool b.pool s t (header_told x).name c.name ends here there)
+        a.linked.sound b.linked.sound a.linked.names b.linked.names (a.settles.readable c.scope) (b.settles.readable c.scope) mine.1 one_view settles second);
   }
 
   entities_settle : (cs ds : List Entity) → AllZip IsSameEntity cs ds → AllByRecursion (Meets (Own a.index)) cs → AllByRecursion (Meets (Own b.index)) ds → AllZip (SettleAlike a.pool b.pool) cs ds
@@ -129,13 +136,14 @@ module _ (batches others : List (List FileContent)) (after last : List FileConte
   entities_settle (c ∷ cs) [] es own its = absurd es
   entities_settle (c ∷ cs) (d ∷ ds) es own its = (entity_settles c d es.0 own.0 its.0, entities_settle cs ds es.1 own.1 its.1)
 
-  all_settle : AllSettleAlike a.pool b.pool a.index b.index a.file b.file
+  all_settle : AllSettleAlike a.pool b.pool a.index b.index a.stood.file b.stood.file
   all_settle =
-      entities_settle (file_entities a.index a.file) (file_entities b.index b.file) (same_entities a.index b.index a.file b.file content)
-      (own_entities a.index a.file a.given) (own_entities b.index b.file b.given)
+      entities_settle (file_entities a.index a.stood.file) (file_entities b.index b.stood.file) (same_entities a.index b.index a.stood.file b.stood.file content)
+      (own_entities a.index a.stood.file a.stood.given) (own_entities b.index b.stood.file b.stood.given)
 
   pub one_content : y ≡ z
   one_content =
       let r : slice_get (map file_view a.new.records) a.index ≡ slice_get (map file_view b.new.records) b.index =
-      settle_alike a.pool b.pool a.new b.new a.first b.first a.index b.index a.file b.file a.settles b.settles a.far (near batches x y a) b.far (near others x z b) a.there b.there content all_settle in
+      settle_alike a.pool b.pool a.new b.new a.first b.first a.index b.index a.stood.file b.stood.file a.settles b.settles
+      a.far (near one.own x y a) b.far (near other.own x z b) a.stood.there b.stood.there content all_settle in
       same_Some y z (sym a.comes ∙ r ∙ b.comes)

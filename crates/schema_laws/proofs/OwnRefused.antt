@@ -1,5 +1,5 @@
--- The set of a schema that sources made is not refused.
-use Rattle.std.proofs.Common.{rules, ◌≡◌, ◌<◌, ◌^◌, ◌⊎◌, ◌∙◌, ℕ, List, [], true, map, length, Option, None, Some, inl, inr, ap, sym, subst}
+-- The set of a schema that holds its options is not refused.
+use Rattle.std.proofs.Common.{rules, ◌≡◌, ◌<◌, ◌^◌, ◌⊎◌, ◌∙◌, List, [], true, map, length, Option, None, Some, inl, inr, ap, sym, subst}
 use Rattle.descriptor_records.specs.Content.{file_view}
 use Rattle.descriptor_records.specs.declared.file.FileDescriptorProto.{FileDescriptorProto}
 use Rattle.linked_alike.specs.ReadOptions.{read_file}
@@ -32,6 +32,7 @@ use Rattle.reflect_wire.specs.Written.{AreBytes}
 use Rattle.reflect_wire.specs.declared.wire_error.WireError.{WireError}
 use Rattle.reflect_wire.specs.declared.wire_error.WireError.TheVariants as wire
 use Rattle.schema_view.specs.Lawful.{IsLawful}
+use Rattle.settled_again.specs.HeldOptions.{HoldsOptions}
 use Rattle.settled_again.proofs.Again.{all_new, linked_same, names_again}
 use Rattle.settled_again.proofs.Taken.{not_refused}
 use Rattle.settled_again.proofs.TypedAgain.{typed_again}
@@ -46,19 +47,20 @@ use Rattle.schema_core.specs.Refusals.{IsNoSet, IsPool, SetRefused}
 use Rattle.schema_core.specs.declared.error.SchemaError.{SchemaError}
 use Rattle.schema_core.specs.declared.error.SchemaError.TheVariants.{Link, Memory, Options, TooLong, Wire}
 use Rattle.schema_core.specs.declared.schema.Schema.{Schema}
-use Rattle.schema_laws.proofs.MadeOf.{IsMade, made}
+use Rattle.schema_laws.proofs.Grown.{HasGrown, grown}
 use Rattle.schema_laws.proofs.OwnSets.{own_read, own_same}
 use Rattle.schema_laws.proofs.RefusedBatches.{no_batch}
 use Rattle.schema_laws.specs.Batches.{AreUnlawful}
-use Rattle.schema_laws.specs.Sources.{IsMadeOf, SourceBatches, TellsMemory}
+use Rattle.schema_laws.specs.Detours.{TellsMemory}
+use Rattle.schema_laws.specs.Histories.{IsGrown}
 
 -- nothing was linked into a pool without files, nor settled in it
 abbrev unlinked : IsBuiltBut [] empty_pool
 unlinked = record { linked = empty_pool; built = empty_built; settles = itself empty_pool }
 
-module _ (batches : SourceBatches) (s : Schema) (is : IsMadeOf batches s) (short : length (pool_bytes s.pool) < 2 ^ 64) where
-  abbrev own : IsMade s.pool
-  own = made batches s is
+module _ (s : Schema) (is : IsGrown s) (held : HoldsOptions s.pool) (short : length (pool_bytes s.pool) < 2 ^ 64) where
+  abbrev own : HasGrown s.pool
+  own = grown is.0 s is.1
 
   own_bytes : (e : WireError) → IsNoSet (pool_bytes s.pool) e → ⊥
   own_bytes e none = none.0 s.pool.records (own_read s own.plain short)
@@ -95,14 +97,14 @@ module _ (batches : SourceBatches) (s : Schema) (is : IsMadeOf batches s) (short
     more = typed_more [] empty_pool linked linked typed empty_typed pool.recorded pool.indexed pool.kept faultless (itself linked)
 
     records : map file_view s.pool.records ≡ map file_view linked.records
-    records = sym (linked_same own.batches s.pool own.typed own.kept own.plain own.alike linked linked files typed same copied more (itself linked).settled pool.kept)
+    records = sym (linked_same own.batches s.pool own.typed own.is.kept own.plain own.alike linked linked files typed same copied more (itself linked).settled pool.kept)
 
     told : TellsMessages linked
     told = accepted_tell empty_pool linked typed (search rules) empty_tells faultless
 
     names : schema_of s.pool unread ≡ schema_of linked unread
     names =
-        sym (names_again own.batches s.pool linked linked files typed own.typed own.kept own.plain own.alike same copied faultless (itself linked) pool.recorded pool.indexed pool.kept unread)
+        sym (names_again own.batches s.pool linked linked files typed own.typed own.is.kept own.plain own.alike same copied faultless (itself linked) pool.recorded pool.indexed pool.kept unread)
 
     -- it reads the options that the schema read
     reads : (scope : OptionScope) → CanRead linked scope
@@ -112,7 +114,7 @@ module _ (batches : SourceBatches) (s : Schema) (is : IsMadeOf batches s) (short
     own_options : ArePlainFiles StoresBytes (map file_view s.pool.records) → (place : Option Place) (e : OptionErrorKind) → (e ≡ UndecodableOptions (Some wire.Memory) → ⊥) → RefusesFrom linked 0 place e → ⊥
     own_options bytes None e other (scope, tells, cannot) = cannot (reads scope)
     own_options bytes (Some place) e other refuses =
-        not_refused own.batches s.pool linked files typed own.typed own.kept own.plain own.held own.alike bytes same copied faultless pool.recorded pool.indexed pool.kept sound reads place e other refuses
+        not_refused own.batches s.pool linked files typed own.typed own.is.kept own.plain held own.alike bytes same copied faultless pool.recorded pool.indexed pool.kept sound reads place e other refuses
 
   -- ---- the whole
   pub own_refused : AreBytes (pool_bytes s.pool) → (e : SchemaError) → (TellsMemory e → ⊥) → SetRefused empty_pool (pool_bytes s.pool) e

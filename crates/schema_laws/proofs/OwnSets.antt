@@ -19,16 +19,16 @@ use Rattle.reflect_wire.specs.declared.wire_key.WireType.TheVariants.{LengthDeli
 use Rattle.codec_laws.specs.Plain as records
 use Rattle.codec_laws.proofs.Again.{files_read_again}
 use Rattle.codec_laws.proofs.Written.{files_read}
-use Rattle.plain_records.specs.PlainRecords.{ArePlainFiles, IsInside}
+use Rattle.plain_records.specs.PlainRecords.{ArePlainFiles, IsInside, IsPlainFile}
 use Rattle.plain_records.specs.SaidOptions.{SaysAndIsSettled}
 use Rattle.plain_records.proofs.Contents.{file_from}
 use Rattle.schema_core.specs.declared.schema.Schema.{Schema}
 use Rattle.schema_laws.specs.Records.{HasPlainRecords}
+use Rattle.schema_laws.proofs.Lists.{all_from}
 
 -- records that bytes can say
 each_plain : (fs : List FileDescriptorProto) → ArePlainFiles SaysAndIsSettled (map file_view fs) → AllByRecursion (IsInside records.IsPlainFile 100) fs
-each_plain [] all = tt
-each_plain (f ∷ fs) all = ((omega arith, file_from 99 f all.0), each_plain fs all.1)
+each_plain = all_from file_view (IsPlainFile SaysAndIsSettled 99) (IsInside records.IsPlainFile 100) (λ f is. (omega arith, file_from 99 f is))
 
 -- each file is written in two bytes or more
 some_bytes : (n : ℕ) → 1 ≤ length (varint_bytes n)

@@ -1,5 +1,5 @@
 -- The records of schemas are such that bytes can say them.
-use Rattle.std.proofs.Common.{◌≡◌, ◌∙◌, ◌≤◌, ◌++◌, ℕ, List, [], ◌∷◌, map, length, take, inl, ap, sym, subst, arith}
+use Rattle.std.proofs.Common.{◌≡◌, ◌∙◌, ◌++◌, ℕ, List, [], ◌∷◌, map, length, take, inl, ap, sym, subst, arith}
 use Rattle.std.proofs.Math.Seq.{take-append_seam}
 use Rattle.std.proofs.lemmas.List.{length-map}
 use Rattle.std.specs.List.{AllByRecursion}
@@ -8,9 +8,8 @@ use Rattle.descriptor_records.specs.declared.file.FileDescriptorProto.{FileDescr
 use Rattle.reflect_bytes.specs.Spelled.{SpellsSet}
 use Rattle.reflect_build.specs.Accepted.{FaultlessFiles}
 use Rattle.reflect_build.specs.Refusals.{new_files}
-use Rattle.reflect_growth.specs.Settled.{bare_of}
 use Rattle.reflect_index.specs.Rewriting.{written}
-use Rattle.reflect_tables.specs.Types.{IsSettled, PoolType}
+use Rattle.reflect_tables.specs.Types.{PoolType}
 use Rattle.reflect_tables.specs.Views.{record_file}
 use Rattle.codec_laws.specs.Plain as records
 use Rattle.codec_laws.proofs.Said.{set_says}
@@ -23,19 +22,14 @@ use Rattle.settled_again.proofs.Linked.{linked_sound}
 use Rattle.linked_records.proofs.Accepted.{linked_plain}
 use Rattle.linked_records.proofs.Typed.{typed_plain}
 use Rattle.settled_records.proofs.Left.{pool_done}
-use Rattle.source_laws.proofs.PlainFiles.{source_plain}
+use Rattle.settled_view.proofs.Transfer.{recorded_before}
 use Rattle.types_view.specs.Pools.{IsRecorded}
-use Rattle.schema_core.specs.Refusals.{AreFilesOf, FilesLinked, SetLinked, SourcesLinked}
+use Rattle.schema_core.specs.Refusals.{FilesLinked, SetLinked, SourcesLinked}
+use Rattle.schema_laws.specs.Histories.{Sources}
 use Rattle.schema_laws.specs.Records.{HasPlainRecords}
+use Rattle.schema_laws.proofs.SourceFiles.{plain_of}
 
--- the files that sources are have plain records
-of_sources : (sources : List (List ℕ × List ℕ)) (files : List FileDescriptorProto) → AreFilesOf sources files → ArePlainFiles SaysOrWaits (map file_view files)
-of_sources [] [] h = tt
-of_sources [] (f ∷ fs) h = absurd h
-of_sources (s ∷ ss) [] h = tt
-of_sources (s ∷ ss) (f ∷ fs) h = (source_plain s.0 s.1 f h.0, of_sources ss fs h.1)
-
--- and so have those of a set: they say what their bytes do
+-- the options of the files of a set say what their bytes do
 pub set_options : (bytes : List ℕ) (files : List FileDescriptorProto) → SpellsSet bytes files → ArePlainFiles SaysItsBytes (map file_view files)
 set_options bytes files (s, means, are) = subst (λ fs. ArePlainFiles SaysItsBytes (map file_view fs)) are (each s.file.items (set_says bytes s means))
   where
@@ -47,23 +41,15 @@ of_set : (bytes : List ℕ) (files : List FileDescriptorProto) → SpellsSet byt
 of_set bytes files spells = files_weaker SaysItsBytes SaysOrWaits (λ kind o says. inl says) (map file_view files) (set_options bytes files spells)
 
 -- a pool has as many files as records
-as_many : (p : PoolType) → p.files ≡ map record_file p.records → length p.files ≡ length p.records
-as_many p headers = ap length headers ∙ length-map p.records record_file
-
--- so it is of the pool that linking makes
-linked_as_many : (linked new : PoolType) → IsSettled linked new → map bare_of new.records ≡ map bare_of linked.records → IsRecorded new → length linked.records ≤ length linked.files
-linked_as_many linked new settled bare recorded =
-    let files : length new.files ≡ length linked.files = ap (λ (p : PoolType). length p.files) settled in
-    let records : length new.records ≡ length linked.records = sym (length-map new.records bare_of) ∙ ap length bare ∙ length-map linked.records bare_of in
-    let own = as_many new recorded.headers in
-    omega (arith, files, records, own)
+pub as_many : (p : PoolType) → IsRecorded p → length p.files ≡ length p.records
+as_many p recorded = ap length recorded.headers ∙ length-map p.records record_file
 
 -- the older records stand before the linked ones
 older : (old linked : PoolType) (files : List FileDescriptorProto) → FaultlessFiles old files linked → IsRecorded old → take (length old.files) (map file_view linked.records) ≡ map file_view old.records
 older old linked files (w, is, (names, batch)) recorded =
     let more = written batch.references (map file_view (new_files w.indexes files)) in
     let stand : map file_view linked.records ≡ map file_view old.records ++ more = batch.records ∙ ap (λ (p : PoolType). map file_view p.records ++ more) is.tables in
-    let many : length old.files ≡ length (map file_view old.records) = as_many old recorded.headers ∙ sym (length-map old.records file_view) in
+    let many : length old.files ≡ length (map file_view old.records) = as_many old recorded ∙ sym (length-map old.records file_view) in
     ap (take (length old.files)) stand ∙ ap (λ n. take n (map file_view old.records ++ more)) many ∙ take-append_seam (map file_view old.records) more
 
 -- files with plain records leave the records of a pool plain
@@ -72,11 +58,12 @@ linked_files : (old new : PoolType) (files : List FileDescriptorProto) → IsSou
 linked_files old new files sound before recorded plain are (linked, (typed, types, (adds, faultless)), settles, settled, bare) =
     let waits = files_weaker SaysAndIsSettled SaysOrWaits (λ kind o says. inl says.0) (map file_view old.records) plain in
     let linked_are = linked_plain SaysOrWaits old linked typed waits (typed_plain files typed are types) faultless in
-    pool_done linked new (length old.files) (linked_sound linked new settled sound) (linked_as_many linked new settled bare recorded) linked_are
+    let many : length linked.files ≡ length linked.records = as_many linked (recorded_before linked new (record { settled = settled; bare = bare }) recorded) in
+    pool_done linked new (length old.files) (linked_sound linked new settled sound) (omega (arith, many)) linked_are
     (subst (ArePlainFiles SaysAndIsSettled) (sym (older old linked typed faultless before)) plain) settles
 
-pub sources_plain : (old new : PoolType) (sources : List (List ℕ × List ℕ)) → IsSound new → IsRecorded old → IsRecorded new → HasPlainRecords old → SourcesLinked old sources new → HasPlainRecords new
-sources_plain old new sources sound before recorded plain (files, read, linked) = linked_files old new files sound before recorded plain (of_sources sources files read) linked
+pub sources_plain : (old new : PoolType) (sources : Sources) → IsSound new → IsRecorded old → IsRecorded new → HasPlainRecords old → SourcesLinked old sources new → HasPlainRecords new
+sources_plain old new sources sound before recorded plain (files, read, linked) = linked_files old new files sound before recorded plain (plain_of sources files read) linked
 
 pub set_plain : (old new : PoolType) (bytes : List ℕ) → IsSound new → IsRecorded old → IsRecorded new → HasPlainRecords old → SetLinked old bytes new → HasPlainRecords new
 set_plain old new bytes sound before recorded plain (files, read, linked) = linked_files old new files sound before recorded plain (of_set bytes files read) linked

@@ -8,17 +8,14 @@ use Rattle.schema_view.specs.Lawful.{SameFiles, sources}
 use Rattle.schema_view.specs.Plain.{IsPlainFile}
 use Rattle.schema_view.proofs.Batches.{files_there}
 use Rattle.schema_core.specs.declared.schema.Schema.{Schema}
-use Rattle.schema_laws.specs.Histories.{IsHistory}
+use Rattle.schema_laws.specs.Histories.{BatchLinked, IsMadeBy}
 use Rattle.schema_laws.proofs.Lists.{twin}
-use Rattle.schema_laws.proofs.BatchFiles.{IsMade}
+use Rattle.schema_laws.proofs.BatchFiles.{CameAbout}
 use Rattle.schema_laws.proofs.Histories.{came_about}
 use Rattle.schema_laws.proofs.OneFile.{one_content}
 
-same_there : (fs : List FileContent) (y z : FileContent) → y ≡ z → Contains fs z → Contains fs y
-same_there fs y z e i = subst (Contains fs) (sym e) i
-
 -- a record of the one is one of the other: what it was linked to stands in both
-one_way : (batches others : List (List FileContent)) (p q : PoolType) → IsMade batches p → IsMade others q → ((f : FileContent) → Contains (sources batches) f → IsPlainFile f)
+one_way : (batches others : List (List FileContent)) (p q : PoolType) → CameAbout batches p → CameAbout others q → ((f : FileContent) → Contains (sources batches) f → IsPlainFile f)
     → SameFiles (sources batches) (sources others) → (y : FileContent) → Contains (map file_view p.records) y → Contains (map file_view q.records) y
 one_way batches others p q a b plain same y i =
     let before = a.typed.but.linked.records in
@@ -32,13 +29,13 @@ one_way batches others p q a b plain same y i =
     let is : y ≡ z.0 =
     one_content batches others (map file_view before) (map file_view behind) plain same a.typed.but.built.built b.typed.but.built.built x.0 y z.0
     (a.files k.0 x.0 y x.1 k.1) (b.files j.0 x.0 z.0 j.1 z.1) in
-    same_there (map file_view q.records) y z.0 is (get_contains (map file_view q.records) j.0 z.0 z.1)
+    subst (Contains (map file_view q.records)) (sym is) (get_contains (map file_view q.records) j.0 z.0 z.1)
 
-pub same_records : (batches others : List (List FileContent)) (s t : Schema) → IsHistory batches s → IsHistory others t → ((f : FileContent) → Contains (sources batches) f → IsPlainFile f)
+pub same_records : (batches others : List (List FileContent)) (s t : Schema) → IsMadeBy BatchLinked batches s → IsMadeBy BatchLinked others t → ((f : FileContent) → Contains (sources batches) f → IsPlainFile f)
     → SameFiles (sources batches) (sources others) → SameFiles (map file_view s.pool.records) (map file_view t.pool.records)
 same_records batches others s t came also plain same y =
-    let a = (came_about batches s came).made in
-    let b = (came_about others t also).made in (
+    let a = came_about batches s came in
+    let b = came_about others t also in (
       one_way batches others s.pool t.pool a b plain same y,
       one_way others batches t.pool s.pool b a (λ f i. plain f ((same f).1 i)) (λ f. ((same f).1, (same f).0)) y,
     )

@@ -1,23 +1,24 @@
 -- Files that were added to schemas in batches, and why files are no batch behind a schema's.
-use Rattle.std.specs.Prelude.{◌≡◌, ◌⊎◌, ℕ, List, true, map, Contains}
+use Rattle.std.specs.Prelude.{◌≡◌, ◌⊎◌, List, true, map, Contains}
 use Rattle.descriptor_records.specs.Content.{FileContent, file_view}
 use Rattle.descriptor_records.specs.declared.file.FileDescriptorProto.{FileDescriptorProto}
 use Rattle.reflect_build.specs.Refusals.{AreTooMany, IsOf, Linking, new_files}
 use Rattle.reflect_passes.specs.Errors.{is_memory}
 use Rattle.reflect_passes.specs.declared.error.DescriptorError.{DescriptorError}
 use Rattle.reflect_tables.specs.Types.{PoolType}
-use Rattle.schema_core.specs.Refusals.{IsPool, SetLinked, SourcesLinked}
+use Rattle.schema_core.specs.Refusals.{IsPool}
 use Rattle.schema_core.specs.declared.schema.Schema.{Schema}
 use Rattle.schema_view.specs.Lawful.{IsLawful, Meanings, SameFiles, sources}
 use Rattle.schema_view.specs.Plain.{IsPlainFile}
 use Rattle.types_view.specs.Typed.{IsTyped}
+use Rattle.schema_laws.specs.Histories.{Addition, AdditionLinked}
 
 -- sources, or a descriptor set, were added to the first schema, which became the second
 pub record Grows (old new : Schema) : Type 0 where
   pub before : IsPool old.pool
   pub after : IsPool new.pool
-  pub added : ((sources : List (List ℕ × List ℕ)) × SourcesLinked old.pool sources new.pool)
-      ⊎ ((bytes : List ℕ) × SetLinked old.pool bytes new.pool)
+  pub addition : Addition
+  pub linked : AdditionLinked old.pool addition new.pool
 
 -- the same files, whose names have no dots, as sources give them, were added to both schemas in
 -- these batches and in those

@@ -1,6 +1,6 @@
 pub mod Schemas
 pub mod Records
 pub mod Reprints
-pub mod Batches
-pub mod Sources
 pub mod Histories
+pub mod Batches
+pub mod Detours

@@ -1,9 +1,8 @@
 //! Laws of the detour that a schema takes through its own set, each the contract of a function that
-//! does nothing. `IsGrown n s` says that a schema without files became `s` where sources, or a set,
-//! were added `n` times, `IsMadeOf batches s` that it did where these sources were added alone,
-//! `IsDetour s t` that `t` is what `from_descriptor_set` answers for the own set of `s`, and
-//! `SetRefused empty_pool bytes e` what it promises where it refuses a set. A set is bytes, no more
-//! than a length can say.
+//! does nothing. `IsMadeBy SourcesLinked batches s` says that a schema without files became `s` as
+//! these sources were added, `IsGrown s` that it did as sources and sets were, `IsDetour s t` that
+//! `t` is what `from_descriptor_set` answers for the own set of `s`, and `SetRefused empty_pool
+//! bytes e` what it promises where it refuses a set. A set is bytes, no more than a length can say.
 ghost use Rattle.std.specs.Prelude.{◌≡◌, ◌<◌, ◌^◌, ℕ, List, Option, length, map};
 ghost use Rattle.descriptor_records.specs.Content.{file_view};
 ghost use Rattle.descriptor_records.specs.declared.file.FileDescriptorProto.{FileDescriptorProto};
@@ -18,38 +17,48 @@ ghost use Rattle.reflect_wire.specs.declared.wire_error.WireError.{WireError};
 ghost use Rattle.reflect_wire.specs.declared.wire_error.WireError.TheVariants as wire;
 ghost use Rattle.text_error.specs.declared.error.ParseErrorKind.{ParseErrorKind};
 ghost use Rattle.text_error.specs.declared.error.ParseErrorKind.TheVariants as kinds;
+ghost use Rattle.settled_again.specs.HeldOptions.{HoldsOptions};
 ghost use Rattle.text_view.specs.Schemas.{schema_of};
 ghost use Rattle.schema_core.specs.Payloads.{Decoded, Encoded, Recoded};
-ghost use Rattle.schema_core.specs.Refusals.{IsNoMessage, IsNoText, SetRefused};
+ghost use Rattle.schema_core.specs.Refusals.{IsNoMessage, IsNoText, SetRefused, SourcesLinked};
 ghost use Rattle.schema_core.specs.declared.error.SchemaError.{SchemaError};
 ghost use Rattle.schema_core.specs.declared.schema.Schema.{Schema};
-ghost use Rattle.schema_laws.specs.Sources.{IsDetour, IsGrown, IsMadeOf, SourceBatches, TellsMemory};
+ghost use Rattle.schema_laws.specs.Detours.{IsDetour, TellsMemory};
+ghost use Rattle.schema_laws.specs.Histories.{AdditionLinked, IsGrown, IsMadeBy, Sources};
+ghost use Rattle.schema_laws.specs.Histories.{of_sources};
 
 /// What sources alone made is such a schema.
 pub fn schemas_of_sources_are_grown()
-    ensures { (batches : SourceBatches) (s : Schema) → IsMadeOf batches s
-        → IsGrown (length batches) s }
+    ensures { (batches : List Sources) (s : Schema) → IsMadeBy SourcesLinked batches s
+        → IsMadeBy AdditionLinked (map of_sources batches) s }
 {}
 
-/// Where sources alone made the schema, the set is not refused, unless memory runs out, or its
-/// files declare more together than one batch may.
+/// And it holds its options as they stand in a set: stored as their types write them, or as sources
+/// give them.
+pub fn schemas_of_sources_hold_their_options()
+    ensures { (batches : List Sources) (s : Schema) → IsMadeBy SourcesLinked batches s
+        → HoldsOptions s.pool }
+{}
+
+/// Where a schema holds its options so, the set is not refused, unless memory runs out, or its files
+/// declare more together than one batch may.
 pub fn own_sets_are_not_refused()
-    ensures { (batches : SourceBatches) (s : Schema) → IsMadeOf batches s
+    ensures { (s : Schema) → IsGrown s → HoldsOptions s.pool
         → AreBytes (pool_bytes s.pool) → length (pool_bytes s.pool) < 2 ^ 64
         → (e : SchemaError) → (TellsMemory e → ⊥) → SetRefused empty_pool (pool_bytes s.pool) e
         → (files : List FileDescriptorProto)
         × (map file_view files ≡ map file_view s.pool.records) × AreTooMany empty_pool files }
 {}
 
-/// The schema of the set has the same types, and says the same to texts, whatever made the first;
-/// where sources alone did, it has the records that were written, so that its own set is the same.
+/// The schema of the set has the same types, and says the same to texts; and where the first holds
+/// its options so, it has the records that were written, so that its own set is the same.
 pub fn own_sets_give_the_same_schema()
-    ensures records { (batches : SourceBatches) (s t : Schema) → IsMadeOf batches s
+    ensures records { (s t : Schema) → IsGrown s → HoldsOptions s.pool
         → IsDetour s t → AreBytes (pool_bytes s.pool)
         → map file_view t.pool.records ≡ map file_view s.pool.records }
-    ensures types { (n : ℕ) (s t : Schema) → IsGrown n s → IsDetour s t
+    ensures types { (s t : Schema) → IsGrown s → IsDetour s t
         → types_of t.pool ≡ types_of s.pool }
-    ensures names { (n : ℕ) (s t : Schema) → IsGrown n s → IsDetour s t
+    ensures names { (s t : Schema) → IsGrown s → IsDetour s t
         → (decoded : Name → List ℕ → Option Message)
         → schema_of t.pool decoded ≡ schema_of s.pool decoded }
 {}
@@ -57,13 +66,13 @@ pub fn own_sets_give_the_same_schema()
 /// So both recode bytes to the same, and neither refuses what the other recodes, unless memory runs
 /// out.
 pub fn schemas_of_own_sets_recode_alike()
-    ensures same { (n : ℕ) (s t : Schema) → IsGrown n s → IsDetour s t
+    ensures same { (s t : Schema) → IsGrown s → IsDetour s t
         → (name bytes a b : List ℕ) → AreBytes bytes → Recoded s.pool name bytes a
         → Recoded t.pool name bytes b → a ≡ b }
-    ensures first { (n : ℕ) (s t : Schema) → IsGrown n s → IsDetour s t
+    ensures first { (s t : Schema) → IsGrown s → IsDetour s t
         → (name bytes out : List ℕ) (e : WireError) → (e ≡ wire.Memory → ⊥) → AreBytes bytes
         → Recoded s.pool name bytes out → IsNoMessage t.pool name bytes e → ⊥ }
-    ensures second { (n : ℕ) (s t : Schema) → IsGrown n s → IsDetour s t
+    ensures second { (s t : Schema) → IsGrown s → IsDetour s t
         → (name bytes out : List ℕ) (e : WireError) → (e ≡ wire.Memory → ⊥) → AreBytes bytes
         → Recoded t.pool name bytes out → IsNoMessage s.pool name bytes e → ⊥ }
 {}
@@ -71,20 +80,20 @@ pub fn schemas_of_own_sets_recode_alike()
 /// Both encode a text to the same bytes, and neither refuses one that the other encodes, unless
 /// memory runs out.
 pub fn schemas_of_own_sets_encode_alike()
-    ensures same { (n : ℕ) (s t : Schema) → IsGrown n s → IsDetour s t
+    ensures same { (s t : Schema) → IsGrown s → IsDetour s t
         → (name text a b : List ℕ) → Encoded s.pool name text a → Encoded t.pool name text b
         → a ≡ b }
-    ensures first { (n : ℕ) (s t : Schema) → IsGrown n s → IsDetour s t
+    ensures first { (s t : Schema) → IsGrown s → IsDetour s t
         → (name text out : List ℕ) (kind : ParseErrorKind) → (kind ≡ kinds.Memory → ⊥)
         → Encoded s.pool name text out → IsNoText t.pool name text kind → ⊥ }
-    ensures second { (n : ℕ) (s t : Schema) → IsGrown n s → IsDetour s t
+    ensures second { (s t : Schema) → IsGrown s → IsDetour s t
         → (name text out : List ℕ) (kind : ParseErrorKind) → (kind ≡ kinds.Memory → ⊥)
         → Encoded t.pool name text out → IsNoText s.pool name text kind → ⊥ }
 {}
 
 /// And both print the same text of bytes.
 pub fn schemas_of_own_sets_decode_alike()
-    ensures { (n : ℕ) (s t : Schema) → IsGrown n s → IsDetour s t
+    ensures { (s t : Schema) → IsGrown s → IsDetour s t
         → (name bytes a b : List ℕ) → AreBytes bytes → Decoded s.pool name bytes a
         → Decoded t.pool name bytes b → a ≡ b }
 {}

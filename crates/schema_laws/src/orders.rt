@@ -1,6 +1,6 @@
 //! Laws of the records of schemas that sources made, in whatever order, each the contract of a
-//! function that does nothing. `IsHistory batches s` says that `Schema::new` made `s`, with sources
-//! that were added since, and that these files came, the last batch of them first;
+//! function that does nothing. `IsMadeBy BatchLinked batches s` says that `Schema::new` made `s`,
+//! with sources that were added since, and that these files came, the last batch of them first;
 //! `AreNewFilesOf p sources batch`, that the sources are these files and others that `p` had.
 ghost use Rattle.std.specs.Prelude.{◌∷◌, ℕ, List, [], Contains, map};
 ghost use Rattle.descriptor_records.specs.Content.{FileContent, file_view};
@@ -11,7 +11,7 @@ ghost use Rattle.schema_view.specs.Lawful.{SameFiles, sources};
 ghost use Rattle.schema_view.specs.Plain.{IsPlainFile};
 ghost use Rattle.schema_core.specs.Refusals.{IsPool, SourcesLinked, descriptor_name};
 ghost use Rattle.schema_core.specs.declared.schema.Schema.{Schema};
-ghost use Rattle.schema_laws.specs.Histories.{AreNewFilesOf, IsHistory};
+ghost use Rattle.schema_laws.specs.Histories.{AreNewFilesOf, BatchLinked, IsMadeBy};
 
 /// A schema that `Schema::new` made has a history: the file of its source.
 pub fn new_schemas_have_a_history()
@@ -20,24 +20,24 @@ pub fn new_schemas_have_a_history()
         → ((scope : OptionScope) → ReadsOptions s.pool scope)
         → (batch : List FileContent)
         × AreNewFilesOf empty_pool ((descriptor_name, source) ∷ []) batch
-        × IsHistory (batch ∷ []) s }
+        × IsMadeBy BatchLinked (batch ∷ []) s }
 {}
 
 /// Sources that are added to it since, or to what comes of it, are one batch more: the files that
 /// they are and that it had not yet.
 pub fn added_sources_are_history()
     ensures { (last : List FileContent) (earlier : List (List FileContent)) (old new : Schema)
-        (given : List (List ℕ × List ℕ)) → IsHistory (last ∷ earlier) old → IsPool new.pool
-        → SourcesLinked old.pool given new.pool
+        (given : List (List ℕ × List ℕ)) → IsMadeBy BatchLinked (last ∷ earlier) old
+        → IsPool new.pool → SourcesLinked old.pool given new.pool
         → (batch : List FileContent) × AreNewFilesOf old.pool given batch
-        × IsHistory (batch ∷ last ∷ earlier) new }
+        × IsMadeBy BatchLinked (batch ∷ last ∷ earlier) new }
 {}
 
 /// Where the same files, whose names have no dots, came in other batches, both schemas hold the same
 /// records: the same options, and locations.
 pub fn schemas_of_the_same_files_hold_the_same_records()
     ensures { (batches others : List (List FileContent)) (s t : Schema)
-        → IsHistory batches s → IsHistory others t
+        → IsMadeBy BatchLinked batches s → IsMadeBy BatchLinked others t
         → ((f : FileContent) → Contains (sources batches) f → IsPlainFile f)
         → SameFiles (sources batches) (sources others)
         → SameFiles (map file_view s.pool.records) (map file_view t.pool.records) }

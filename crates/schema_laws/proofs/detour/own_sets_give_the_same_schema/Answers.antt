@@ -2,7 +2,7 @@ use Rattle.schema_laws.proofs.OwnSchemas.{same_names, same_records, same_types}
 use Rattle.schema_laws.proofs.detour.own_sets_give_the_same_schema.Goals as goal
 
 pub returns-clause-records : goal.returns-clause-records
-returns-clause-records c = same_records
+returns-clause-records c = λ s t is held detour. same_records s t is detour held
 
 pub returns-clause-types : goal.returns-clause-types
 returns-clause-types c = same_types

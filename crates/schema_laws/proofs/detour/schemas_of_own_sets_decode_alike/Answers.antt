@@ -4,6 +4,6 @@ use Rattle.schema_laws.proofs.TextsAlike.{decoded_alike, no_message}
 use Rattle.schema_laws.proofs.detour.schemas_of_own_sets_decode_alike.Goals as goal
 
 pub returns : goal.returns
-returns c = λ n s t is detour.
+returns c = λ s t is detour.
     decoded_alike s.pool t.pool s.sound t.sound
-    (sym (same_names n s t is detour no_message))
+    (sym (same_names s t is detour no_message))

@@ -4,16 +4,16 @@ use Rattle.schema_laws.proofs.TextsAlike.{encoded_alike, no_message, taken_alike
 use Rattle.schema_laws.proofs.detour.schemas_of_own_sets_encode_alike.Goals as goal
 
 pub returns-clause-same : goal.returns-clause-same
-returns-clause-same c = λ n s t is detour.
+returns-clause-same c = λ s t is detour.
     encoded_alike s.pool t.pool s.sound t.sound
-    (sym (same_names n s t is detour no_message))
+    (sym (same_names s t is detour no_message))
 
 pub returns-clause-first : goal.returns-clause-first
-returns-clause-first c = λ n s t is detour.
+returns-clause-first c = λ s t is detour.
     taken_alike s.pool t.pool s.sound t.sound
-    (sym (same_names n s t is detour no_message))
+    (sym (same_names s t is detour no_message))
 
 pub returns-clause-second : goal.returns-clause-second
-returns-clause-second c = λ n s t is detour.
+returns-clause-second c = λ s t is detour.
     taken_alike t.pool s.pool t.sound s.sound
-    (same_names n s t is detour no_message)
+    (same_names s t is detour no_message)

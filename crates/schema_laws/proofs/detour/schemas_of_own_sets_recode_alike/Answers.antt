@@ -4,13 +4,13 @@ use Rattle.schema_laws.proofs.Recoding.{accepted_alike, recoded_alike}
 use Rattle.schema_laws.proofs.detour.schemas_of_own_sets_recode_alike.Goals as goal
 
 pub returns-clause-same : goal.returns-clause-same
-returns-clause-same c = λ n s t is detour.
-    recoded_alike s.pool t.pool s.sound t.sound (sym (same_types n s t is detour))
+returns-clause-same c = λ s t is detour.
+    recoded_alike s.pool t.pool s.sound t.sound (sym (same_types s t is detour))
 
 pub returns-clause-first : goal.returns-clause-first
-returns-clause-first c = λ n s t is detour.
-    accepted_alike s.pool t.pool s.sound t.sound (sym (same_types n s t is detour))
+returns-clause-first c = λ s t is detour.
+    accepted_alike s.pool t.pool s.sound t.sound (sym (same_types s t is detour))
 
 pub returns-clause-second : goal.returns-clause-second
-returns-clause-second c = λ n s t is detour.
-    accepted_alike t.pool s.pool t.sound s.sound (same_types n s t is detour)
+returns-clause-second c = λ s t is detour.
+    accepted_alike t.pool s.pool t.sound s.sound (same_types s t is detour)
