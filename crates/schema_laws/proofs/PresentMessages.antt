@@ -13,9 +13,9 @@ use Rattle.linked_names.proofs.Accepted.{accepted_present}
 use Rattle.reflect_index.proofs.Behind.{get_in}
 use Rattle.linked_names.proofs.Stays.{settled_present}
 use Rattle.linked_names.specs.Presence.{HasMessagePresence, HasPresentMessages}
-use Rattle.schema_core.specs.Refusals.{FilesLinked}
+use Rattle.schema_core.specs.Refusals.{FilesLinked, SourcesLinked}
 use Rattle.schema_core.specs.declared.schema.Schema.{Schema}
-use Rattle.schema_laws.specs.Sources.{IsMadeOf, SourceBatches}
+use Rattle.schema_laws.specs.Histories.{IsMadeBy, Sources}
 
 empty_present : HasPresentMessages empty_pool
 empty_present = search rules
@@ -41,6 +41,6 @@ pub printed_present : (pool : PoolType) → HasPresentMessages pool → HaveMess
 printed_present pool has i n f known = known_has HasMessagePresence pool has i n f known
 
 -- a schema that sources made begins without files
-pub made_present : (batches : SourceBatches) (s : Schema) → IsMadeOf batches s → HasPresentMessages s.pool
+pub made_present : (batches : List Sources) (s : Schema) → IsMadeBy SourcesLinked batches s → HasPresentMessages s.pool
 made_present [] s is = subst HasPresentMessages (sym is) empty_present
 made_present (sources ∷ earlier) s (old, before, linked, pool) = linked_present old.pool s.pool linked.0 old.sound linked.2 (made_present earlier old before)

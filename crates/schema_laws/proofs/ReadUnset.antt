@@ -5,7 +5,6 @@ use Rattle.descriptor_records.specs.Content.{file_view}
 use Rattle.descriptor_records.specs.declared.file.FileDescriptorProto.{FileDescriptorProto}
 use Rattle.reflect_pool.specs.Linked.{empty_pool}
 use Rattle.reflect_tables.specs.Types.{PoolType}
-use Rattle.source_laws.proofs.LoneLists.{source_lone}
 use Rattle.source_records.specs.LoneLists.{GivesLoneLists}
 use Rattle.message_view.specs.Sound.{IsSound}
 use Rattle.print_view.specs.Forms.{HaveReadDefaults}
@@ -13,28 +12,25 @@ use Rattle.linked_names.proofs.Stays.{settled_unset}
 use Rattle.linked_names.proofs.Typed.{typed_lists}
 use Rattle.linked_names.proofs.Unset.{accepted_unset}
 use Rattle.linked_names.specs.Unset.{HasReadUnset, IsReadUnset}
-use Rattle.schema_core.specs.Refusals.{AreFilesOf, FilesLinked, SourcesLinked}
+use Rattle.schema_core.specs.Refusals.{FilesLinked, SourcesLinked}
 use Rattle.schema_core.specs.declared.schema.Schema.{Schema}
+use Rattle.schema_laws.proofs.Lists.{all_from}
 use Rattle.schema_laws.proofs.PresentMessages.{known_has}
-use Rattle.schema_laws.specs.Sources.{IsMadeOf, SourceBatches}
+use Rattle.schema_laws.proofs.SourceFiles.{lone_of}
+use Rattle.schema_laws.specs.Histories.{IsMadeBy, Sources}
 
 -- no list is a member of a oneof in their records
 abbrev pub HaveLone : List FileDescriptorProto → Type 0
 HaveLone files = AllByRecursion (λ (f : FileDescriptorProto). GivesLoneLists (file_view f)) files
 
-of_sources : (sources : List (List ℕ × List ℕ)) (files : List FileDescriptorProto)
-    → AreFilesOf sources files → HaveLone files
-of_sources [] [] h = tt
-of_sources [] (f ∷ fs) h = absurd h
-of_sources (s ∷ ss) [] h = tt
-of_sources (s ∷ ss) (f ∷ fs) h = (source_lone s.0 s.1 f h.0, of_sources ss fs h.1)
-
 pub linked_unset : (old new : PoolType) (files : List FileDescriptorProto) → IsSound old → HaveLone files → FilesLinked old files new → HasReadUnset old → HasReadUnset new
 linked_unset old new files sound lone (linked, fit, options, settled, bare) has =
     settled_unset linked new settled (accepted_unset old linked fit.0 sound fit.2.1 (typed_lists files fit.0 fit.1 lone) has)
 
-pub sources_unset : (old new : PoolType) (sources : List (List ℕ × List ℕ)) → IsSound old → SourcesLinked old sources new → HasReadUnset old → HasReadUnset new
-sources_unset old new sources sound (files, read, linked) has = linked_unset old new files sound (of_sources sources files read) linked has
+pub sources_unset : (old new : PoolType) (sources : Sources) → IsSound old → SourcesLinked old sources new → HasReadUnset old → HasReadUnset new
+sources_unset old new sources sound (files, read, linked) has =
+    let lone = all_from file_view GivesLoneLists (λ (f : FileDescriptorProto). GivesLoneLists (file_view f)) (λ f is. is) files (lone_of sources files read) in
+    linked_unset old new files sound lone linked has
 
 -- ---- what the laws of texts with defaults ask
 
@@ -48,6 +44,6 @@ empty_unset : HasReadUnset empty_pool
 empty_unset = search rules
 
 -- a schema that sources made begins without files
-pub made_unset : (batches : SourceBatches) (s : Schema) → IsMadeOf batches s → HasReadUnset s.pool
+pub made_unset : (batches : List Sources) (s : Schema) → IsMadeBy SourcesLinked batches s → HasReadUnset s.pool
 made_unset [] s is = subst HasReadUnset (sym is) empty_unset
 made_unset (sources ∷ earlier) s (old, before, linked, pool) = sources_unset old.pool s.pool sources old.sound linked (made_unset earlier old before)

@@ -6,8 +6,10 @@ use Rattle.descriptor_records.specs.declared.file.FileDescriptorProto.{FileDescr
 use Rattle.plain_records.specs.PlainRecords.{ArePlainFiles, IsPlainFile}
 use Rattle.plain_records.specs.SaidOptions.{SaysOrWaits}
 use Rattle.plain_records.specs.SourceOptions.{AreOfSource}
+use Rattle.source_laws.proofs.LoneLists.{source_lone}
 use Rattle.source_laws.proofs.PlainFiles.{source_options, source_plain}
 use Rattle.source_laws.proofs.Sources.{source_names}
+use Rattle.source_records.specs.LoneLists.{GivesLoneLists}
 use Rattle.source_records.specs.SourceNames.{IsSourceFile}
 use Rattle.schema_core.specs.Refusals.{AreFilesOf, IsFileOf}
 use Rattle.schema_laws.specs.Histories.{Sources}
@@ -23,6 +25,10 @@ module _ (given : Sources) (files : List FileDescriptorProto) (are : AreFilesOf 
   -- names as sources give them
   pub names_of : AllByRecursion IsSourceFile (map file_view files)
   names_of = each_is IsSourceFile (λ s f. source_names s.0 s.1 f) given files are
+
+  -- no list in a oneof
+  pub lone_of : AllByRecursion GivesLoneLists (map file_view files)
+  lone_of = each_is GivesLoneLists (λ s f. source_lone s.0 s.1 f) given files are
 
   -- records that bytes can say
   pub plain_of : ArePlainFiles SaysOrWaits (map file_view files)

@@ -24,8 +24,7 @@ ghost use Rattle.schema_core.specs.declared.schema.Schema.{Schema};
 ghost use Rattle.schema_laws.specs.Batches.{AreNoBatch, HaveSameFiles};
 
 /// Sources that are added are one batch more, and the schema's pool still tells of its fields. What
-/// `IsPool` asks each pool has, as `pools_are_recorded`, `pools_are_indexed` and `pools_are_linked`
-/// say.
+/// `IsPool` asks each pool has, as `pools_are_whole` says.
 pub fn added_sources_are_a_batch()
     ensures { (earlier : List (List FileContent)) (old new : Schema)
         (sources : List (List ℕ × List ℕ)) → IsTyped earlier old.pool → IsPool new.pool

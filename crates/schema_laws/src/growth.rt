@@ -1,6 +1,5 @@
 //! Laws of texts and of schemas that grow, each the contract of a function that does nothing. What
-//! `IsPool` asks each pool has, as `pools_are_recorded`, `pools_are_indexed` and `pools_are_linked`
-//! say.
+//! `IsPool` asks each pool has, as `pools_are_whole` says.
 ghost use Rattle.std.specs.Prelude.{◌≡◌, ◌++◌, ℕ, List};
 ghost use Rattle.descriptor_records.specs.Content.{FileContent};
 ghost use Rattle.text_error.specs.declared.error.ParseErrorKind.{ParseErrorKind};

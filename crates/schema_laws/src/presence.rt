@@ -1,7 +1,7 @@
 //! Laws of presence in schemas, each the contract of a function that does nothing: that a field of
 //! one message has it, and that a field without it is read as not set where a text gives it its
-//! default, as the laws of texts with defaults ask (`print_view`). `IsMadeOf batches s` says that a
-//! schema `s` without files became what it is by these batches of sources.
+//! default, as the laws of texts with defaults ask (`print_view`). `IsMadeBy SourcesLinked batches s`
+//! says that a schema without files became `s` as these sources were added.
 ghost use Rattle.std.specs.Prelude.{ℕ, List};
 ghost use Rattle.std.specs.List.{AllByRecursion};
 ghost use Rattle.descriptor_records.specs.Content.{file_view};
@@ -13,7 +13,7 @@ ghost use Rattle.linked_names.specs.Presence.{HasPresentMessages};
 ghost use Rattle.linked_names.specs.Unset.{HasReadUnset};
 ghost use Rattle.schema_core.specs.Refusals.{SetLinked, SourcesLinked};
 ghost use Rattle.schema_core.specs.declared.schema.Schema.{Schema};
-ghost use Rattle.schema_laws.specs.Sources.{IsMadeOf, SourceBatches};
+ghost use Rattle.schema_laws.specs.Histories.{IsMadeBy, Sources};
 
 /// Sources that are added keep it so.
 pub fn added_sources_keep_messages_present()
@@ -56,6 +56,6 @@ pub fn unset_fields_are_read()
 
 /// So a schema that sources alone made is such as these laws ask.
 pub fn schemas_of_sources_are_printed_with_defaults()
-    ensures { (batches : SourceBatches) (s : Schema) → IsMadeOf batches s
+    ensures { (batches : List Sources) (s : Schema) → IsMadeBy SourcesLinked batches s
         → HaveMessagePresence s.pool × HaveReadDefaults s.pool }
 {}

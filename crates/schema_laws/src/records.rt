@@ -1,7 +1,7 @@
 //! Laws of the records of schemas, and of the sets that are written of them, each the contract of a
 //! function that does nothing. `SourcesLinked p sources q` and `SetLinked p bytes q` are what a
 //! schema promises where it takes sources or a set: that a pool `p` becomes `q`. What is asked of
-//! pools beside this each pool has, as `pools_are_recorded` says.
+//! pools beside this each pool has, as `pools_are_whole` says.
 ghost use Rattle.std.specs.Prelude.{◌≡◌, ◌<◌, ◌^◌, List, ℕ, length, map};
 ghost use Rattle.descriptor_records.specs.Content.{file_view};
 ghost use Rattle.descriptor_records.specs.declared.file.FileDescriptorProto.{FileDescriptorProto};
