@@ -101,13 +101,17 @@ pub fn write_labels(alloc: Global, out: &mut Text) -> Result<(), AllocError> {
     Ok(())
 }
 
+/// Writes the bytes of an error that knows its source, and the error.
+fn write_located(out: &mut Text, error: &DescriptorError) {
+    write_bytes(out, error.span());
+    write!(out, "{error:?}");
+}
+
 /// The bytes of the source's error, before and after it knows its source, and the error.
 pub fn write_error(alloc: Global, out: &mut Text) -> Result<(), AllocError> {
     if let Some(error) = DescriptorError::from_list(faults_of_source(alloc)?) {
         write_bytes(out, error.span());
-        let error = error.with_source_code(SOURCE);
-        write_bytes(out, error.span());
-        write!(out, "{error:?}");
+        write_located(out, &error.with_source_code(SOURCE));
     }
     Ok(())
 }
