@@ -1,6 +1,6 @@
 //! Calls of pools: what they have, and files that are added, refused and taken back.
 
-use crate::starts::{build_file, file_of};
+use crate::starts::file_of;
 use descriptor_records::Options;
 use reflect_build::{BuildFiles, Edit};
 use reflect_bytes::PoolExt;
@@ -127,8 +127,9 @@ fn build(
     pool: &mut DescriptorPool,
     call: &Json,
 ) -> Result<(), AllocError> {
+    let files = vec![in alloc; file_of(alloc, call, "file")?]?;
     let mark = pool.mark();
-    if !build_file(alloc, pool, file_of(alloc, call, "file")?)? {
+    if pool.build_files(alloc, files).is_err() {
         out.push_str("refused");
     } else if truth(call, "then_cut") {
         pool.cut(mark);
