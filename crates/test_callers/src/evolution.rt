@@ -17,15 +17,19 @@ pub fn pass_on(older: &Schema, type_name: &str, bytes: &[u8]) -> Result<Vec<u8>,
     older.recode(type_name, bytes)
 }
 
-const OLDER: &str = "syntax = 'proto3'; package p; message M { int32 foo = 1; }";
+/// The newer source of `M`, which the examples have without its `bar`.
+const NEWER: &str = "syntax = 'proto3'; package p;
+    message M { int32 foo = 1; string bar = 2; N nested = 3; } message N { int32 bar = 2; }";
 
-const NEWER: &str = "syntax = 'proto3'; package p; message M { int32 foo = 1; string bar = 2; }";
-
-/// What the newer schema reads of a message behind the older, which does not know its `bar`.
-pub fn passed_on(alloc: Global) -> Result<String, SchemaError> {
-    let older = link(alloc, &[("a.proto", OLDER)])?;
-    let newer = link(alloc, &[("a.proto", NEWER)])?;
+/// What the newer schema reads of a message of its own that passed through the older.
+fn read_behind(older: &Schema, newer: &Schema) -> Result<String, SchemaError> {
     let bytes = newer.encode("p.M", "bar: 'x' foo: 150")?;
-    let passed = pass_on(&older, "p.M", bytes.as_slice())?;
+    let passed = pass_on(older, "p.M", bytes.as_slice())?;
     newer.decode("p.M", passed.as_slice())
+}
+
+/// A message passes through an older schema, which does not know its `bar`.
+pub fn passed_on(alloc: Global, older: &Schema) -> Result<String, SchemaError> {
+    let newer = link(alloc, &[("a.proto", NEWER)])?;
+    read_behind(older, &newer)
 }

@@ -26,23 +26,42 @@ const USER: &str = "syntax = 'proto3'; package p; import 'date.proto';
 
 const DATE: &str = "syntax = 'proto3'; package p; message Date { int32 year = 1; }";
 
-/// A file stands before the one that it imports.
-pub fn in_any_order(alloc: Global) -> Result<String, SchemaError> {
-    let schema = link(alloc, &[("user.proto", USER), ("date.proto", DATE)])?;
+const MESSAGES: &str = "syntax = 'proto3'; package p;
+    message M { int32 foo = 1; N nested = 3; } message N { int32 bar = 2; }";
+
+/// The schema that examples share. A file stands before the one that it imports.
+pub fn examples(alloc: Global) -> Result<Schema, SchemaError> {
+    let sources = [
+        ("user.proto", USER),
+        ("date.proto", DATE),
+        ("a.proto", MESSAGES),
+    ];
+    link(alloc, &sources)
+}
+
+/// A message whose type stands in two files.
+pub fn in_any_order(schema: &Schema) -> Result<String, SchemaError> {
     schema.decode("p.User", b"\x12\x03\x08\x97\x0e")
 }
 
 /// What it imports is not there.
 pub fn with_one_missing(alloc: Global) -> Result<String, SchemaError> {
-    let schema = link(alloc, &[("user.proto", USER)])?;
-    schema.decode("p.User", b"")
+    let mut schema = Schema::bare(alloc);
+    match schema.add_sources(&[("user.proto", USER)]) {
+        Ok(()) => Ok(String::new(alloc)),
+        Err(refusal) => Err(refusal),
+    }
+}
+
+/// A date of a schema that a set is added to.
+fn date_of(schema: &mut Schema, set: &[u8]) -> Result<String, SchemaError> {
+    add_set(schema, set)?;
+    schema.decode("p.Date", b"\x08\x97\x0e")
 }
 
 /// The set of one schema is added to another.
-pub fn as_a_set(alloc: Global) -> Result<String, SchemaError> {
-    let dates = link(alloc, &[("date.proto", DATE)])?;
-    let set = dates.to_descriptor_set()?;
-    let mut schema = link(alloc, &[])?;
-    add_set(&mut schema, set.as_slice())?;
-    schema.decode("p.Date", b"\x08\x97\x0e")
+pub fn as_a_set(alloc: Global, schema: &Schema) -> Result<String, SchemaError> {
+    let set = schema.to_descriptor_set()?;
+    let mut other = Schema::bare(alloc);
+    date_of(&mut other, set.as_slice())
 }

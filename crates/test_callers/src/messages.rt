@@ -1,6 +1,5 @@
 //! A message is read, changed and written, of a type that is named at run time.
 
-use crate::files::link;
 use reflect_dynamic::{DecodeMessage, DynamicMessage, EncodeMessage, FieldsByName, Value};
 use reflect_link::MessageDescriptor;
 use reflect_wire::WireError;
@@ -25,8 +24,6 @@ pub fn raise_foo(
     message.encode_to_vec()
 }
 
-const SOURCE: &str = "syntax = 'proto3'; package p; message M { int32 foo = 1; }";
-
 /// The bytes with `foo` raised, or none where the schema has no type of the name.
 fn raised(alloc: Global, schema: &Schema, bytes: &[u8]) -> Result<Vec<u8>, SchemaError> {
     match schema.pool().get_message_by_name("p.M") {
@@ -36,16 +33,14 @@ fn raised(alloc: Global, schema: &Schema, bytes: &[u8]) -> Result<Vec<u8>, Schem
 }
 
 /// 150 becomes 151, a field that is not set 1, and what the type does not declare stays.
-pub fn changed(alloc: Global) -> Result<String, SchemaError> {
-    let schema = link(alloc, &[("a.proto", SOURCE)])?;
-    let set = raised(alloc, &schema, b"\x08\x96\x01")?;
-    let unset = raised(alloc, &schema, b"\x10\x05")?;
+pub fn changed(alloc: Global, schema: &Schema) -> Result<String, SchemaError> {
+    let set = raised(alloc, schema, b"\x08\x96\x01")?;
+    let unset = raised(alloc, schema, b"\x10\x05")?;
     Ok(format!(in alloc; "{:?} {:?}", set.as_slice(), unset.as_slice())?)
 }
 
 /// Bytes that end within a field's number.
-pub fn cut_short(alloc: Global) -> Result<String, SchemaError> {
-    let schema = link(alloc, &[("a.proto", SOURCE)])?;
-    let bytes = raised(alloc, &schema, b"\x08")?;
+pub fn cut_short(alloc: Global, schema: &Schema) -> Result<String, SchemaError> {
+    let bytes = raised(alloc, schema, b"\x08")?;
     schema.decode("p.M", bytes.as_slice())
 }

@@ -34,14 +34,21 @@ const SOURCE: &str = "syntax = 'proto2'; package p; import 'google/protobuf/desc
     message N {}";
 
 /// One message has an option of the source's own, another none.
+fn of_the_first(alloc: Global, schema: &Schema) -> Result<String, SchemaError> {
+    if options_of(schema, "p.N")?.is_some() {
+        return Ok(String::new(alloc));
+    }
+    match options_of(schema, "p.M")? {
+        Some(options) => Ok(options),
+        None => Ok(String::new(alloc)),
+    }
+}
+
 pub fn of_a_message(alloc: Global) -> Result<String, SchemaError> {
     let sources = [
         ("google/protobuf/descriptor.proto", TYPES),
         ("a.proto", SOURCE),
     ];
     let schema = link(alloc, &sources)?;
-    match (options_of(&schema, "p.M")?, options_of(&schema, "p.N")?) {
-        (Some(options), None) => Ok(options),
-        _ => Ok(String::new(alloc)),
-    }
+    of_the_first(alloc, &schema)
 }

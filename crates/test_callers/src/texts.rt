@@ -1,6 +1,5 @@
 //! Messages as text.
 
-use crate::files::link;
 use reflect_dynamic::DynamicMessage;
 use reflect_link::MessageDescriptor;
 use reflect_text::{FormatOptions, ParseError, TextFormat, WriteError};
@@ -22,9 +21,6 @@ pub fn show(alloc: Global, message: &DynamicMessage<'_>) -> Result<String, Write
     message.to_text_format_with_options(alloc, &options)
 }
 
-const SOURCE: &str = "syntax = 'proto3'; package p;
-    message M { int32 foo = 1; N nested = 3; } message N { int32 bar = 2; }";
-
 /// What is read of a text, on lines of its own.
 fn shown(alloc: Global, schema: &Schema, text: &str) -> Result<String, SchemaError> {
     let Some(descriptor) = schema.pool().get_message_by_name("p.M") else {
@@ -37,19 +33,22 @@ fn shown(alloc: Global, schema: &Schema, text: &str) -> Result<String, SchemaErr
     }
 }
 
-pub fn read_and_shown(alloc: Global) -> Result<String, SchemaError> {
-    let schema = link(alloc, &[("a.proto", SOURCE)])?;
-    shown(alloc, &schema, "foo: 150 nested <bar: 0x42>")
+pub fn read_and_shown(alloc: Global, schema: &Schema) -> Result<String, SchemaError> {
+    shown(alloc, schema, "foo: 150 nested <bar: 0x42>")
 }
 
-/// A fault has a place: here its bytes, from the first to behind the last.
-pub fn with_a_fault(alloc: Global) -> Result<String, SchemaError> {
-    let schema = link(alloc, &[("a.proto", SOURCE)])?;
-    match shown(alloc, &schema, "foo: 1 fob: 2") {
-        Err(SchemaError::Text(fault)) => match fault.span() {
-            Some(span) => Ok(format!(in alloc; "{}..{} {fault}", span.start, span.end)?),
-            None => Ok(String::new(alloc)),
-        },
+/// The bytes of a fault, from the first to behind the last, and what it says.
+fn placed(alloc: Global, fault: &ParseError) -> Result<String, SchemaError> {
+    match fault.span() {
+        Some(span) => Ok(format!(in alloc; "{}..{} {fault}", span.start, span.end)?),
+        None => Ok(String::new(alloc)),
+    }
+}
+
+/// A fault has a place.
+pub fn with_a_fault(alloc: Global, schema: &Schema) -> Result<String, SchemaError> {
+    match shown(alloc, schema, "foo: 1 fob: 2") {
+        Err(SchemaError::Text(fault)) => placed(alloc, &fault),
         other => other,
     }
 }

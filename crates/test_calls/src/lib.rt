@@ -5,7 +5,6 @@
 //! the text format. docs/TESTS.md says what each file asserts.
 #![tactic(auto)]
 
-mod options;
 mod pools;
 mod replay;
 mod starts;

@@ -1,6 +1,5 @@
 //! Calls of pools: what they have, and files that are added, refused and taken back.
 
-use crate::options::write_options;
 use crate::starts::file_of;
 use descriptor_records::Options;
 use reflect_build::{BuildFiles, Edit};
@@ -11,12 +10,26 @@ use std::alloc::{AllocError, Global};
 use test_described::described;
 use test_json::Text;
 use test_json::members::{bytes, items, text, truth};
+use test_messages::write_options;
 use test_values::{Answers, bytes_of, i32_of, text_of, write_name, write_truth};
 
 /// A pool whose calls change it too.
-#[derive(Drop)]
 pub struct PoolCase {
     pub pool: DescriptorPool,
+}
+
+impl PoolCase {
+    /// A pool without files.
+    pub fn new(alloc: Global) -> PoolCase {
+        let pool = DescriptorPool::new(alloc);
+        PoolCase { pool }
+    }
+}
+
+impl Drop for PoolCase {
+    fn drop(self) {
+        let PoolCase { pool: _ } = self;
+    }
 }
 
 impl Answers for PoolCase {
@@ -41,12 +54,12 @@ fn write_found(out: &mut Text, pool: &DescriptorPool, sort: &str, call: &Json) {
     let name = text(call, "name");
     match sort {
         "has_file" => write_truth(out, pool.has_file(name)),
-        "files" => write!(out, "{}", file_count(pool)),
+        "files" => out.push_shown("", file_count(pool)),
         "message" => write_name(out, message_name(pool, name)),
         "extension" => write_name(out, extension_name(pool, name)),
         "value" => write_name(out, value_name(pool, call)),
         "values" => match pool.get_enum_by_name(name) {
-            Some(found) => write!(out, "{}", found.enum_descriptor_proto().value.len()),
+            Some(found) => out.push_shown("", found.enum_descriptor_proto().value.len()),
             None => out.push_str("-"),
         },
         _ => out.push_str("no call"),
@@ -145,15 +158,19 @@ fn options_given(alloc: Global, call: &Json) -> Result<Options, AllocError> {
     Ok(options)
 }
 
-/// Settles bytes as the options of the declaration at a path of the first file.
-fn settle(alloc: Global, pool: &mut DescriptorPool, call: &Json) -> Result<(), AllocError> {
+/// An edit by which bytes are the options of the declaration at a path of the first file.
+fn edit_of(alloc: Global, call: &Json) -> Result<Edit, AllocError> {
     let path = path_of(alloc, call)?;
-    let options = options_given(alloc, call)?;
-    let edit = Edit::Options {
+    Ok(Edit::Options {
         file: 0,
         path,
-        options,
-    };
+        options: options_given(alloc, call)?,
+    })
+}
+
+/// Settles the options that a call gives.
+fn settle(alloc: Global, pool: &mut DescriptorPool, call: &Json) -> Result<(), AllocError> {
+    let edit = edit_of(alloc, call)?;
     pool.settle(vec![in alloc; edit]?);
     Ok(())
 }

@@ -5,7 +5,7 @@
 //! answers. Bytes are hex text.
 
 use crate::pools::PoolCase;
-use crate::starts::start_of;
+use crate::starts::start;
 use reflect_link::{DescriptorPool, PoolReaders};
 use serde_json::Value as Json;
 use std::alloc::{AllocError, Global};
@@ -18,7 +18,7 @@ use test_values::{TypeCase, replay_calls, replay_key, replay_value};
 /// The pools that cases make for later ones.
 pub struct Replay {
     alloc: Global,
-    pools: BTreeMap<u64, DescriptorPool>,
+    pools: BTreeMap<u64, PoolCase>,
 }
 
 impl Drop for Replay {
@@ -39,10 +39,10 @@ impl Replay {
     pub fn difference(&mut self, case: &Json) -> Result<String, AllocError> {
         let mut difference = Text::new(self.alloc);
         if text(case, "op") == "pool" {
-            self.keep_pool(case, &mut difference)?;
+            self.keep_pool(case, &mut difference);
         } else {
             match self.pools.get(&number(case, "pool")) {
-                Some(pool) => replay_of(self.alloc, pool, case, &mut difference),
+                Some(kept) => replay_of(self.alloc, &kept.pool, case, &mut difference),
                 None => difference.push_str("no such pool "),
             }
         }
@@ -50,15 +50,21 @@ impl Replay {
     }
 
     /// Makes the pool of a case, and the calls of it, and keeps it.
-    fn keep_pool(&mut self, case: &Json, difference: &mut Text) -> Result<(), AllocError> {
-        let Some(pool) = start_of(self.alloc, case)? else {
-            difference.push_str("no pool ");
-            return Ok(());
-        };
-        let mut asked = PoolCase { pool };
-        replay_calls(self.alloc, &mut asked, case, difference);
-        self.pools.insert(number(case, "id"), asked.pool)?;
-        Ok(())
+    fn keep_pool(&mut self, case: &Json, difference: &mut Text) {
+        let mut kept = PoolCase::new(self.alloc);
+        replay_pool(self.alloc, &mut kept, case, difference);
+        if self.pools.insert(number(case, "id"), kept).is_err() {
+            difference.give_up();
+        }
+    }
+}
+
+/// Makes an empty pool that of a case, and the calls of it.
+fn replay_pool(alloc: Global, kept: &mut PoolCase, case: &Json, difference: &mut Text) {
+    match start(alloc, &mut kept.pool, case) {
+        Ok(true) => replay_calls(alloc, kept, case, difference),
+        Ok(false) => difference.push_str("no pool "),
+        Err(_) => difference.give_up(),
     }
 }
 

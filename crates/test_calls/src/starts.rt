@@ -22,39 +22,50 @@ pub fn file_of(
     }
 }
 
-/// A pool of the file `a.proto` of a source, `None` where it is refused.
-fn linked(alloc: Global, source: &str) -> Result<Option<DescriptorPool>, AllocError> {
-    let Ok(file) = parse(alloc, "a.proto", source) else {
-        return Ok(None);
-    };
-    let mut pool = DescriptorPool::new(alloc);
-    match pool.build_files(alloc, vec![in alloc; file]?) {
-        Ok(()) => Ok(Some(pool)),
-        Err(_) => Ok(None),
-    }
-}
-
-/// A pool of the file of a record, `None` where it is refused.
-fn pool_of_file(
+/// Builds a file by itself; false where it is refused.
+pub fn build_file(
     alloc: Global,
+    pool: &mut DescriptorPool,
     file: FileDescriptorProto,
-) -> Result<Option<DescriptorPool>, AllocError> {
-    let mut pool = DescriptorPool::new(alloc);
-    match pool.add_file_descriptor_proto(alloc, file) {
-        Ok(()) => Ok(Some(pool)),
-        Err(_) => Ok(None),
+) -> Result<bool, AllocError> {
+    let files = vec![in alloc; file]?;
+    Ok(pool.build_files(alloc, files).is_ok())
+}
+
+/// Adds the file `a.proto` of a source; false where it is refused.
+fn link(alloc: Global, pool: &mut DescriptorPool, source: &str) -> Result<bool, AllocError> {
+    match parse(alloc, "a.proto", source) {
+        Ok(file) => build_file(alloc, pool, file),
+        Err(_) => Ok(false),
     }
 }
 
-/// The pool of the case's `source`, of the `file` that its bytes spell, or of their `set`; `None`
-/// where it is refused.
-pub fn start_of(alloc: Global, case: &Json) -> Result<Option<DescriptorPool>, AllocError> {
+/// Adds the file of a record; false where it is refused.
+fn add_record(alloc: Global, pool: &mut DescriptorPool, case: &Json) -> Result<bool, AllocError> {
+    let file = file_of(alloc, case, "file")?;
+    Ok(pool.add_file_descriptor_proto(alloc, file).is_ok())
+}
+
+/// Makes the pool that of a set; false where the set is refused.
+fn read(alloc: Global, pool: &mut DescriptorPool, set: &[u8]) -> bool {
+    match DescriptorPool::decode(alloc, set) {
+        Ok(made) => {
+            *pool = made;
+            true
+        }
+        Err(_) => false,
+    }
+}
+
+/// Makes an empty pool that of the case's `source`, of the `file` that its bytes spell, or of their
+/// `set`; false where it is refused.
+pub fn start(alloc: Global, pool: &mut DescriptorPool, case: &Json) -> Result<bool, AllocError> {
     if case.get("source").is_some() {
-        return linked(alloc, text(case, "source"));
+        return link(alloc, pool, text(case, "source"));
     }
     if case.get("file").is_some() {
-        return pool_of_file(alloc, file_of(alloc, case, "file")?);
+        return add_record(alloc, pool, case);
     }
     let set = bytes(alloc, case, "set")?;
-    Ok(DescriptorPool::decode(alloc, set.as_slice()).ok())
+    Ok(read(alloc, pool, set.as_slice()))
 }

@@ -15,9 +15,8 @@ use serde_json::Value;
 use std::alloc::{AllocError, Global};
 use std::io;
 use std::process::ExitCode;
-use test_files::{Replays, replay_files};
-use test_json::Told;
 use test_json::members::text;
+use test_json::{Replays, Told, replay_files};
 
 /// The cases of a file, which has schemas, pools and a `descriptor.proto` of its own.
 #[derive(Drop)]

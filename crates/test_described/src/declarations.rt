@@ -3,7 +3,8 @@
 
 use crate::fields::write_extension;
 use crate::parts::{
-    found_or_dash, listed_or_dash, record_name, write_names, write_path, write_truth,
+    write_found, write_home, write_listed, write_named, write_names, write_path, write_record,
+    write_truth,
 };
 use crate::types::{write_enums, write_messages};
 use reflect_link::{
@@ -27,6 +28,7 @@ pub fn described(alloc: Global, pool: &DescriptorPool) -> Result<String, AllocEr
 fn write_files(out: &mut Text, pool: &DescriptorPool) {
     for file in pool.files() {
         write_file(out, file);
+        write_declared(out, file);
     }
 }
 
@@ -50,63 +52,61 @@ fn syntax_name(syntax: Syntax) -> &'static str {
     }
 }
 
+/// Writes what a file says of itself, and what finds it again.
 fn write_file(out: &mut Text, file: FileDescriptor<'_>) {
     out.push_pair("file ", file.name());
-    write!(out, " index={}", file.index());
+    out.push_shown(" index=", file.index());
     out.push_pair(" package=", file.package_name());
     out.push_pair(" syntax=", syntax_name(file.syntax()));
-    out.push_pair(" record=", record_name(&file.file_descriptor_proto().name));
+    write_record(out, &file.file_descriptor_proto().name);
     let found = file.parent_pool().get_file_by_name(file.name());
-    out.push_pair(" found=", listed_or_dash(found));
-    write_file_parts(out, file);
-    out.push_str("\n");
+    write_listed(out, " found=", found);
 }
 
-/// The names of what a file imports and declares.
-fn write_file_parts(out: &mut Text, file: FileDescriptor<'_>) {
+/// Writes the names of what a file imports and declares.
+fn write_declared(out: &mut Text, file: FileDescriptor<'_>) {
     write_names(out, " imports=", file.dependencies());
     write_names(out, " public=", file.public_dependencies());
     write_names(out, " messages=", file.messages());
     write_names(out, " enums=", file.enums());
     write_names(out, " extensions=", file.extensions());
     write_names(out, " services=", file.services());
+    out.push_str("\n");
 }
 
+/// Writes a service's name, its record, what finds it again, and the names of its methods.
 fn write_service(out: &mut Text, service: ServiceDescriptor<'_>) {
-    out.push_pair("service ", service.full_name());
-    out.push_pair(" name=", service.name());
-    write!(out, " index={}", service.index());
-    write_path(out, service.path());
-    out.push_pair(" file=", service.parent_file().name());
-    out.push_pair(" package=", service.package_name());
-    out.push_pair(
-        " record=",
-        record_name(&service.service_descriptor_proto().name),
-    );
+    write_named(out, "service ", service.full_name(), service.name());
+    out.push_shown(" index=", service.index());
+    let file = service.parent_file().name();
+    write_home(out, service.path(), file, service.package_name());
+    write_record(out, &service.service_descriptor_proto().name);
     let pool = service.parent_pool();
     let found = pool.get_service_by_name(service.full_name());
-    out.push_pair(" found=", found_or_dash(found));
+    write_found(out, " found=", found);
     write_names(out, " methods=", service.methods());
     out.push_str("\n");
 }
 
 fn write_methods(out: &mut Text, service: ServiceDescriptor<'_>) {
     for method in service.methods() {
-        write_method(out, method);
+        write_method_names(out, method);
+        write_method_types(out, method);
     }
 }
 
-fn write_method(out: &mut Text, method: MethodDescriptor<'_>) {
-    out.push_pair("method ", method.full_name());
-    out.push_pair(" name=", method.name());
-    write!(out, " index={}", method.index());
+/// Writes a method's name, what it stands in, and its record.
+fn write_method_names(out: &mut Text, method: MethodDescriptor<'_>) {
+    write_named(out, "method ", method.full_name(), method.name());
+    out.push_shown(" index=", method.index());
     write_path(out, method.path());
     out.push_pair(" file=", method.parent_file().name());
     out.push_pair(" in=", method.parent_service().full_name());
-    out.push_pair(
-        " record=",
-        record_name(&method.method_descriptor_proto().name),
-    );
+    write_record(out, &method.method_descriptor_proto().name);
+}
+
+/// Writes what a method takes and gives.
+fn write_method_types(out: &mut Text, method: MethodDescriptor<'_>) {
     out.push_pair(" input=", method.input().full_name());
     out.push_pair(" output=", method.output().full_name());
     write_truth(out, " streams=", method.is_client_streaming());

@@ -1,72 +1,67 @@
 //! Lines of fields and extensions.
 
-use crate::parts::{found_or_dash, listed_or_dash, or_dash, record_name, write_path, write_truth};
+use crate::parts::{
+    or_dash, write_found, write_home, write_listed, write_named, write_path, write_record,
+    write_truth,
+};
 use reflect_dynamic::{AnyField, FieldDescriptorLike};
 use reflect_link::{
     Cardinality, DefaultValue, ExtensionDescriptor, FieldDescriptor, FieldReaders, InFile, Kind,
 };
 use test_json::Text;
 
-/// A field's name, and what finds it again.
+/// Writes a field's names, where it stands, and what finds it again.
 pub fn write_field(out: &mut Text, field: FieldDescriptor<'_>) {
-    out.push_pair("field ", field.full_name());
-    out.push_pair(" name=", field.name());
-    out.push_pair(" json=", or_dash(field.json_name()));
-    write_path(out, field.path());
-    out.push_pair(" in=", field.parent_message().full_name());
-    out.push_pair(
-        " record=",
-        record_name(&field.field_descriptor_proto().name),
-    );
+    write_field_names(out, field);
     write_field_lookups(out, field);
     write_truth(out, " required=", field.is_required());
-    out.push_pair(" oneof=", listed_or_dash(field.containing_oneof()));
+    write_listed(out, " oneof=", field.containing_oneof());
     write_form(out, AnyField::Field(field), field.cardinality());
 }
 
-/// The field of its message that has its number, its name and its JSON name.
+fn write_field_names(out: &mut Text, field: FieldDescriptor<'_>) {
+    write_named(out, "field ", field.full_name(), field.name());
+    out.push_pair(" json=", or_dash(field.json_name()));
+    write_path(out, field.path());
+    out.push_pair(" in=", field.parent_message().full_name());
+    write_record(out, &field.field_descriptor_proto().name);
+}
+
+/// Writes the field of its message that has its number, its name and its JSON name.
 fn write_field_lookups(out: &mut Text, field: FieldDescriptor<'_>) {
     let message = field.parent_message();
-    let by_number = message.get_field(field.number());
-    out.push_pair(" found=", listed_or_dash(by_number));
-    let by_name = message.get_field_by_name(field.name());
-    out.push_pair(",", listed_or_dash(by_name));
-    let by_json_name = message.get_field_by_json_name(or_dash(field.json_name()));
-    out.push_pair(",", listed_or_dash(by_json_name));
+    write_listed(out, " found=", message.get_field(field.number()));
+    write_listed(out, ",", message.get_field_by_name(field.name()));
+    let json_name = or_dash(field.json_name());
+    write_listed(out, ",", message.get_field_by_json_name(json_name));
 }
 
-/// An extension's name, and what finds it again.
+/// Writes an extension's names, where it stands, and what finds it again.
 pub fn write_extension(out: &mut Text, extension: ExtensionDescriptor<'_>) {
-    out.push_pair("extension ", extension.full_name());
-    out.push_pair(" name=", extension.name());
+    let (full_name, name) = (extension.full_name(), extension.name());
+    write_named(out, "extension ", full_name, name);
     out.push_pair(" json=", extension.json_name());
-    write_path(out, extension.path());
-    out.push_pair(" file=", extension.parent_file().name());
-    out.push_pair(" package=", extension.package_name());
-    out.push_pair(" in=", found_or_dash(extension.parent_message()));
+    let file = extension.parent_file().name();
+    write_home(out, extension.path(), file, extension.package_name());
+    write_found(out, " in=", extension.parent_message());
     out.push_pair(" of=", extension.containing_message().full_name());
-    out.push_pair(
-        " record=",
-        record_name(&extension.field_descriptor_proto().name),
-    );
+    write_record(out, &extension.field_descriptor_proto().name);
     write_extension_lookups(out, extension);
-    write_form(out, AnyField::Extension(extension), extension.cardinality());
+    let cardinality = extension.cardinality();
+    write_form(out, AnyField::Extension(extension), cardinality);
 }
 
-/// The extension of its message that has its number, its full name, its JSON name, and that of the
-/// pool with its full name.
+/// Writes the extension of its message that has its number, its full name, its JSON name, and that
+/// of the pool with its full name.
 fn write_extension_lookups(out: &mut Text, extension: ExtensionDescriptor<'_>) {
     let message = extension.containing_message();
-    let by_number = message.get_extension(extension.number());
-    out.push_pair(" found=", found_or_dash(by_number));
-    let by_name = message.get_extension_by_full_name(extension.full_name());
-    out.push_pair(",", found_or_dash(by_name));
-    let by_json_name = message.get_extension_by_json_name(extension.json_name());
-    out.push_pair(",", found_or_dash(by_json_name));
-    let in_pool = extension
-        .parent_pool()
-        .get_extension_by_name(extension.full_name());
-    out.push_pair(",", found_or_dash(in_pool));
+    write_found(out, " found=", message.get_extension(extension.number()));
+    let full_name = extension.full_name();
+    write_found(out, ",", message.get_extension_by_full_name(full_name));
+    let json_name = extension.json_name();
+    write_found(out, ",", message.get_extension_by_json_name(json_name));
+    let pool = extension.parent_pool();
+    write_found(out, ",", pool.get_extension_by_name(full_name));
 }
 
 fn cardinality_name(cardinality: Cardinality) -> &'static str {
@@ -77,12 +72,16 @@ fn cardinality_name(cardinality: Cardinality) -> &'static str {
     }
 }
 
-/// What fields and extensions have in common.
+/// Writes what fields and extensions have in common.
 fn write_form(out: &mut Text, field: AnyField<'_>, cardinality: Cardinality) {
-    write!(out, " number={} ", field.number());
-    out.push_str(cardinality_name(cardinality));
+    out.push_shown(" number=", field.number());
+    out.push_pair(" ", cardinality_name(cardinality));
     out.push_pair(" kind=", kind_name(field.kind()));
     write_default(out, field.default());
+    write_traits(out, field);
+}
+
+fn write_traits(out: &mut Text, field: AnyField<'_>) {
     write_truth(out, " group=", field.is_group());
     write_truth(out, " list=", field.is_list());
     write_truth(out, " map=", field.is_map());
@@ -114,16 +113,17 @@ fn kind_name<'p>(kind: Kind<'p>) -> &'p str {
     }
 }
 
+/// Writes a default: of a text or of bytes the bytes.
 fn write_default(out: &mut Text, default: Option<DefaultValue<'_>>) {
     out.push_str(" default=");
     match default {
         None => {}
-        Some(DefaultValue::I64(number)) => write!(out, "{number}"),
-        Some(DefaultValue::U64(number)) => write!(out, "{number}"),
-        Some(DefaultValue::Bool(truth)) => write!(out, "{truth}"),
+        Some(DefaultValue::I64(number)) => out.push_shown("", number),
+        Some(DefaultValue::U64(number)) => out.push_shown("", number),
+        Some(DefaultValue::Bool(truth)) => write_truth(out, "", truth),
         Some(DefaultValue::Text(text)) => out.push_hex(text.as_bytes()),
         Some(DefaultValue::Bytes(bytes)) => out.push_hex(bytes),
-        Some(DefaultValue::Enum(number)) => write!(out, "enum {number}"),
-        Some(DefaultValue::Float(text)) => write!(out, "float {text}"),
+        Some(DefaultValue::Enum(number)) => out.push_shown("enum ", number),
+        Some(DefaultValue::Float(text)) => out.push_pair("float ", text),
     }
 }

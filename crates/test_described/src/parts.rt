@@ -10,27 +10,40 @@ pub fn or_dash<'t>(name: Option<&'t str>) -> &'t str {
     name.unwrap_or("-")
 }
 
-/// The name of what was found, or a dash.
-pub fn listed_or_dash<'p, T: Listed<'p>>(found: Option<T>) -> &'p str {
-    match found {
-        Some(found) => found.listed_name(),
-        None => "-",
-    }
+/// Writes what a line begins with: the sort of a declaration, its full name and its name.
+pub fn write_named(out: &mut Text, sort: &str, full_name: &str, name: &str) {
+    out.push_pair(sort, full_name);
+    out.push_pair(" name=", name);
 }
 
-/// The full name of what was found, or a dash.
-pub fn found_or_dash<'p, T: Found<'p>>(found: Option<T>) -> &'p str {
-    match found {
-        Some(found) => found.found_name(),
-        None => "-",
-    }
+/// Writes where a declaration stands: its path, its file and its package.
+pub fn write_home(out: &mut Text, path: &[i32], file: &str, package: &str) {
+    write_path(out, path);
+    out.push_pair(" file=", file);
+    out.push_pair(" package=", package);
 }
 
-/// The name that a record has.
-pub fn record_name(name: &Option<String>) -> &str {
+/// Writes the name that a record has, or a dash.
+pub fn write_record(out: &mut Text, name: &Option<String>) {
     match name {
-        Some(name) => name.as_str(),
-        None => "-",
+        Some(name) => out.push_pair(" record=", name.as_str()),
+        None => out.push_str(" record=-"),
+    }
+}
+
+/// Writes a word and the name of what was found, or a dash.
+pub fn write_listed<'p, T: Listed<'p>>(out: &mut Text, word: &str, found: Option<T>) {
+    match found {
+        Some(found) => out.push_pair(word, found.listed_name()),
+        None => out.push_pair(word, "-"),
+    }
+}
+
+/// Writes a word and the full name of what was found, or a dash.
+pub fn write_found<'p, T: Found<'p>>(out: &mut Text, word: &str, found: Option<T>) {
+    match found {
+        Some(found) => out.push_pair(word, found.found_name()),
+        None => out.push_pair(word, "-"),
     }
 }
 
@@ -63,7 +76,7 @@ pub fn write_names<'p, T: Listed<'p>, I: Iterator<Item = T> + Drop>(
 pub fn write_path(out: &mut Text, path: &[i32]) {
     let mut gap = " path=";
     for number in path {
-        write!(out, "{gap}{number}");
+        out.push_shown(gap, *number);
         gap = ".";
     }
 }

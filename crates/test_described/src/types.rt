@@ -2,7 +2,8 @@
 
 use crate::fields::write_field;
 use crate::parts::{
-    found_or_dash, listed_or_dash, record_name, write_names, write_path, write_truth,
+    write_found, write_home, write_listed, write_named, write_names, write_path, write_record,
+    write_truth,
 };
 use reflect_link::{
     DescriptorPool, EnumDescriptor, EnumReaders, EnumValueDescriptor, EnumValueReaders, InFile,
@@ -35,17 +36,16 @@ fn write_oneofs(out: &mut Text, message: MessageDescriptor<'_>) {
     }
 }
 
+/// Writes a type's name, what it stands in, its record, and what finds it again.
 fn write_message_names(out: &mut Text, message: MessageDescriptor<'_>) {
-    out.push_pair("message ", message.full_name());
-    out.push_pair(" name=", message.name());
-    write_path(out, message.path());
-    out.push_pair(" file=", message.parent_file().name());
-    out.push_pair(" package=", message.package_name());
-    out.push_pair(" in=", found_or_dash(message.parent_message()));
-    out.push_pair(" record=", record_name(&message.descriptor_proto().name));
+    write_named(out, "message ", message.full_name(), message.name());
+    let file = message.parent_file().name();
+    write_home(out, message.path(), file, message.package_name());
+    write_found(out, " in=", message.parent_message());
+    write_record(out, &message.descriptor_proto().name);
     let pool = message.parent_pool();
     let found = pool.get_message_by_name(message.full_name());
-    out.push_pair(" found=", found_or_dash(found));
+    write_found(out, " found=", found);
 }
 
 /// The names of the key and the value of a map's entry.
@@ -67,7 +67,8 @@ fn write_message_parts(out: &mut Text, message: MessageDescriptor<'_>) {
 
 fn write_reserved(out: &mut Text, message: MessageDescriptor<'_>) {
     for range in message.reserved_ranges() {
-        write!(out, " reserved={}..{}", range.start, range.end);
+        out.push_shown(" reserved=", range.start);
+        out.push_shown("..", range.end);
     }
 }
 
@@ -75,7 +76,8 @@ fn write_reserved(out: &mut Text, message: MessageDescriptor<'_>) {
 fn write_message_numbers(out: &mut Text, message: MessageDescriptor<'_>) {
     write_reserved(out, message);
     for range in message.extension_ranges() {
-        write!(out, " range={}..{}", range.start, range.end);
+        out.push_shown(" range=", range.start);
+        out.push_shown("..", range.end);
     }
     write_names(out, " kept=", message.reserved_names());
     write_extended(out, message);
@@ -96,14 +98,10 @@ fn write_extended(out: &mut Text, message: MessageDescriptor<'_>) {
 }
 
 fn write_oneof(out: &mut Text, oneof: OneofDescriptor<'_>) {
-    out.push_pair("oneof ", oneof.full_name());
-    out.push_pair(" name=", oneof.name());
+    write_named(out, "oneof ", oneof.full_name(), oneof.name());
     write_path(out, oneof.path());
     out.push_pair(" in=", oneof.parent_message().full_name());
-    out.push_pair(
-        " record=",
-        record_name(&oneof.oneof_descriptor_proto().name),
-    );
+    write_record(out, &oneof.oneof_descriptor_proto().name);
     write_truth(out, " synthetic=", oneof.is_synthetic());
     write_names(out, " fields=", oneof.fields());
     out.push_str("\n");
@@ -112,14 +110,25 @@ fn write_oneof(out: &mut Text, oneof: OneofDescriptor<'_>) {
 /// Writes the pool's enums, each with its values.
 pub fn write_enums(out: &mut Text, pool: &DescriptorPool) {
     for kind in pool.all_enums() {
-        write_enum(out, kind);
+        write_enum_names(out, kind);
+        write_enum_parts(out, kind);
         write_values(out, kind);
     }
 }
 
-/// Writes an enum, its default and what it reserves.
-fn write_enum(out: &mut Text, kind: EnumDescriptor<'_>) {
-    write_enum_names(out, kind);
+/// Writes an enum's name, what it stands in, its record, and what finds it again.
+fn write_enum_names(out: &mut Text, kind: EnumDescriptor<'_>) {
+    write_named(out, "enum ", kind.full_name(), kind.name());
+    let file = kind.parent_file().name();
+    write_home(out, kind.path(), file, kind.package_name());
+    write_found(out, " in=", kind.parent_message());
+    write_record(out, &kind.enum_descriptor_proto().name);
+    let found = kind.parent_pool().get_enum_by_name(kind.full_name());
+    write_found(out, " found=", found);
+}
+
+/// Writes what an enum reserves, the names of its values and its default.
+fn write_enum_parts(out: &mut Text, kind: EnumDescriptor<'_>) {
     for range in kind.reserved_ranges() {
         write!(out, " reserved={}..={}", range.start(), range.end());
     }
@@ -129,38 +138,21 @@ fn write_enum(out: &mut Text, kind: EnumDescriptor<'_>) {
     out.push_str("\n");
 }
 
-fn write_enum_names(out: &mut Text, kind: EnumDescriptor<'_>) {
-    out.push_pair("enum ", kind.full_name());
-    out.push_pair(" name=", kind.name());
-    write_path(out, kind.path());
-    out.push_pair(" file=", kind.parent_file().name());
-    out.push_pair(" package=", kind.package_name());
-    out.push_pair(" in=", found_or_dash(kind.parent_message()));
-    out.push_pair(" record=", record_name(&kind.enum_descriptor_proto().name));
-    let found = kind.parent_pool().get_enum_by_name(kind.full_name());
-    out.push_pair(" found=", found_or_dash(found));
-}
-
 fn write_values(out: &mut Text, kind: EnumDescriptor<'_>) {
     for value in kind.values() {
         write_value(out, value);
     }
 }
 
+/// Writes a value of an enum, and what finds it again.
 fn write_value(out: &mut Text, value: EnumValueDescriptor<'_>) {
     let kind = value.parent_enum();
-    out.push_pair("value ", value.full_name());
-    out.push_pair(" name=", value.name());
-    write!(out, " number={}", value.number());
+    write_named(out, "value ", value.full_name(), value.name());
+    out.push_shown(" number=", value.number());
     write_path(out, value.path());
     out.push_pair(" in=", kind.full_name());
-    out.push_pair(
-        " record=",
-        record_name(&value.enum_value_descriptor_proto().name),
-    );
-    let by_number = kind.get_value(value.number());
-    out.push_pair(" found=", listed_or_dash(by_number));
-    let by_name = kind.get_value_by_name(value.name());
-    out.push_pair(",", listed_or_dash(by_name));
+    write_record(out, &value.enum_value_descriptor_proto().name);
+    write_listed(out, " found=", kind.get_value(value.number()));
+    write_listed(out, ",", kind.get_value_by_name(value.name()));
     out.push_str("\n");
 }

@@ -26,6 +26,14 @@ pub fn items<'v>(value: &'v Value, name: &'static str) -> &'v [Value] {
     }
 }
 
+/// The two items of a list that has just two.
+pub fn pair(value: &Value) -> Option<(&Value, &Value)> {
+    match value.as_array()?.as_slice() {
+        [first, second] => Some((first, second)),
+        _ => None,
+    }
+}
+
 /// The bytes that a member has as hex text, none where there is no such member.
 ///
 /// What is no hex text is refused as want of memory is.

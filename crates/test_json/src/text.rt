@@ -52,6 +52,23 @@ impl Text {
         }
     }
 
+    /// Writes a word, and a value behind it as it displays itself.
+    pub fn push_shown<D: Display + Drop>(&mut self, word: &str, value: D) {
+        self.push_str(word);
+        self.write_fmt(value);
+    }
+
+    /// Writes a word, and a text behind it in quotes.
+    pub fn push_quoted(&mut self, word: &str, text: &str) {
+        self.push_str(word);
+        write!(self, "{text:?}");
+    }
+
+    /// Writes where something stands: the place of its first byte, and that behind its last.
+    pub fn push_span(&mut self, start: usize, end: usize) {
+        write!(self, "{start}..{end}");
+    }
+
     /// Writes bytes as hex text.
     pub fn push_hex(&mut self, bytes: &[u8]) {
         for byte in bytes {

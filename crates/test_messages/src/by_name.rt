@@ -1,11 +1,12 @@
 //! Calls of fields by their names.
 
-use reflect_dynamic::{DynamicMessage, FieldsByName, FieldsByNameMut, LendError};
+use crate::lent::change_found;
+use reflect_dynamic::{DynamicMessage, FieldsByName, FieldsByNameMut};
 use serde_json::Value as Json;
 use std::alloc::Global;
 use test_json::Text;
 use test_json::members::text;
-use test_values::{change_lent, value_of, write_held, write_outcome, write_taken, write_truth};
+use test_values::{value_of, write_held, write_outcome, write_taken, write_truth};
 
 /// Makes a call of the field of a name.
 pub fn answer_by_name(
@@ -19,11 +20,7 @@ pub fn answer_by_name(
     match text(call, "call") {
         "has" => write_truth(out, message.has_field_by_name(name)),
         "get" => write_held(out, message.get_field_by_name(name)),
-        "change" => match message.get_field_by_name_mut(name) {
-            Ok(held) => change_lent(alloc, out, Some(held), call),
-            Err(LendError::NotFound) => change_lent(alloc, out, None, call),
-            Err(LendError::Memory) => out.give_up(),
-        },
+        "change" => change_found(alloc, out, message.get_field_by_name_mut(name), call),
         "set" => {
             let value = value_of(alloc, out, pool, call);
             out.check(message.set_field_by_name(name, value));

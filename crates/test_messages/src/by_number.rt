@@ -1,11 +1,12 @@
 //! Calls of fields by their numbers.
 
-use reflect_dynamic::{DynamicMessage, FieldsByNumber, FieldsByNumberMut, LendError};
+use crate::lent::change_found;
+use reflect_dynamic::{DynamicMessage, FieldsByNumber, FieldsByNumberMut};
 use serde_json::Value as Json;
 use std::alloc::Global;
 use test_json::Text;
 use test_json::members::text;
-use test_values::{change_lent, value_of, write_held, write_outcome, write_taken, write_truth};
+use test_values::{value_of, write_held, write_outcome, write_taken, write_truth};
 
 /// Makes a call of the field of a number.
 pub fn answer_by_number(
@@ -19,11 +20,7 @@ pub fn answer_by_number(
     match text(call, "call") {
         "has" => write_truth(out, message.has_field_by_number(number)),
         "get" => write_held(out, message.get_field_by_number(number)),
-        "change" => match message.get_field_by_number_mut(number) {
-            Ok(held) => change_lent(alloc, out, Some(held), call),
-            Err(LendError::NotFound) => change_lent(alloc, out, None, call),
-            Err(LendError::Memory) => out.give_up(),
-        },
+        "change" => change_found(alloc, out, message.get_field_by_number_mut(number), call),
         "set" => {
             let value = value_of(alloc, out, pool, call);
             out.check(message.set_field_by_number(number, value));

@@ -1,4 +1,4 @@
-//! Cases of calls of messages: what each answers, as text.
+//! Cases of messages: what each call of one answers, as text, and the texts of messages.
 #![tactic(auto)]
 
 mod by_extension;
@@ -7,6 +7,10 @@ mod by_name;
 mod by_number;
 mod lent;
 mod messages;
+mod options;
+mod printed;
 mod texts;
 
+pub use options::write_options;
+pub use printed::{tell_merged, tell_printed, tell_text_refusal};
 pub use texts::{replay_message, replay_values};

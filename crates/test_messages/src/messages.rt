@@ -5,7 +5,7 @@ use crate::by_field::answer_by_field;
 use crate::by_name::answer_by_name;
 use crate::by_number::answer_by_number;
 use reflect_dynamic::{
-    DecodeMessage, DynamicMessage, EncodeMessage, MessageTests, MessageWalks, TakeContents,
+    DecodeMessage, DynamicMessage, EncodeMessage, MessageTests, MessageWalks, TakeContents, Value,
 };
 use serde_json::Value as Json;
 use std::alloc::Global;
@@ -90,12 +90,17 @@ fn declares(message: &DynamicMessage<'_>, call: &Json) -> Option<bool> {
     Some(message.declares_extension(&extension))
 }
 
+/// Writes a number and a value behind it.
+fn write_numbered(out: &mut Text, number: u32, value: &Value<'_>) {
+    write_gap(out);
+    write!(out, "{number} ");
+    write_value(out, value);
+}
+
 /// Writes the fields that are set.
 fn write_fields(out: &mut Text, message: &DynamicMessage<'_>) {
     for (field, value) in message.fields() {
-        write_gap(out);
-        write!(out, "{} ", field.number());
-        write_value(out, value);
+        write_numbered(out, field.number(), value);
     }
 }
 
@@ -103,7 +108,7 @@ fn write_fields(out: &mut Text, message: &DynamicMessage<'_>) {
 fn write_extensions(out: &mut Text, message: &DynamicMessage<'_>) {
     for (extension, value) in message.extensions() {
         write_gap(out);
-        write!(out, "{} ", extension.name());
+        out.push_pair(extension.name(), " ");
         write_value(out, value);
     }
 }
@@ -112,32 +117,28 @@ fn write_extensions(out: &mut Text, message: &DynamicMessage<'_>) {
 fn write_unknown(out: &mut Text, message: &DynamicMessage<'_>) {
     for record in message.unknown_fields() {
         write_gap(out);
-        write!(out, "{}", record.number());
+        out.push_shown("", record.number());
     }
 }
 
 /// Takes the fields, and writes those that were set.
 fn take_fields(out: &mut Text, message: &mut DynamicMessage<'_>) {
     for (field, value) in message.take_fields() {
-        write_gap(out);
-        write!(out, "{} ", field.number());
-        write_value(out, &value);
+        write_numbered(out, field.number(), &value);
     }
 }
 
 /// Takes the extensions, and writes those that were set.
 fn take_extensions(out: &mut Text, message: &mut DynamicMessage<'_>) {
     for (extension, value) in message.take_extensions() {
-        write_gap(out);
-        write!(out, "{} ", extension.number());
-        write_value(out, &value);
+        write_numbered(out, extension.number(), &value);
     }
 }
 
 /// Takes the records that the type does not declare, and writes how many there were.
 fn take_unknown(out: &mut Text, message: &mut DynamicMessage<'_>) {
     match message.take_unknown_fields() {
-        Ok(records) => write!(out, "{}", records.len()),
+        Ok(records) => out.push_shown("", records.len()),
         Err(_) => out.give_up(),
     }
 }

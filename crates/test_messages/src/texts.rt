@@ -68,7 +68,7 @@ impl Answers for MessageCase<'_> {
 fn write_refusal(out: &mut Text, outcome: Result<(), ParseError>) {
     if let Err(error) = outcome {
         match error.span() {
-            Some(span) => write!(out, "{}..{}", span.start, span.end),
+            Some(span) => out.push_span(span.start, span.end),
             None => out.push_str("refused"),
         }
     }

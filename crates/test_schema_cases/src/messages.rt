@@ -6,6 +6,7 @@ use serde_json::Value;
 use std::alloc::Global;
 use test_json::Told;
 use test_json::members::text;
+use test_messages::tell_printed;
 
 /// Tells bytes, or why there are none.
 fn tell_bytes(alloc: Global, told: &mut Told<'_>, came: Result<Vec<u8>, SchemaError>) {
@@ -23,7 +24,7 @@ fn tell_text(alloc: Global, told: &mut Told<'_>, came: Result<String, SchemaErro
     }
 }
 
-/// What a schema encodes, decodes or recodes.
+/// What a schema encodes, decodes, recodes or prints.
 pub fn tell_asked(
     alloc: Global,
     op: &str,
@@ -37,6 +38,7 @@ pub fn tell_asked(
         "encode" => tell_bytes(alloc, told, schema.encode(type_name, text(case, "text"))),
         "recode" => tell_bytes(alloc, told, schema.recode(type_name, bytes)),
         "decode" => tell_text(alloc, told, schema.decode(type_name, bytes)),
+        "print" => tell_printed(alloc, schema.pool(), case, bytes, told),
         _ => {}
     }
 }

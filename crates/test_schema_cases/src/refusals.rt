@@ -1,10 +1,11 @@
 //! What is told of a schema's refusals.
 
+use crate::layers::{tell_link_refusal, tell_option_refusal};
 use schema_core::SchemaError;
 use std::alloc::Global;
-use test_json::{Text, Told};
-use test_layers::{tell_link_refusal, tell_option_refusal, tell_text_refusal};
-use test_sources::{tell_case, tell_source_refusal};
+use test_json::{Text, Told, tell_case};
+use test_messages::tell_text_refusal;
+use test_sources::tell_source_refusal;
 
 /// The name of a schema's refusal.
 fn schema_code(error: &SchemaError) -> &'static str {

@@ -8,22 +8,33 @@
 use crate::messages::tell_asked;
 use crate::refusals::tell_refusal;
 use crate::schemas::{is_set_of, tell_steps};
-use schema_core::Schema;
+use schema_core::{Schema, SchemaError};
 use serde_json::Value;
 use std::alloc::Global;
 use std::collections::BTreeMap;
-use test_described::described;
+use test_described::{described, tell_options};
 use test_json::Told;
 use test_json::members::{bytes, items, number, text, truth};
-use test_layers::{tell_merged, tell_options, tell_printed};
+use test_messages::tell_merged;
 use test_sources::tell_case_of_sources;
+
+/// A schema that a case builds.
+struct Built {
+    schema: Schema,
+}
+
+impl Drop for Built {
+    fn drop(self) {
+        let Built { schema: _ } = self;
+    }
+}
 
 /// What cases build for later ones.
 pub struct Replay {
     alloc: Global,
     /// The text of the `descriptor.proto` of schemas with option types.
     descriptor: String,
-    schemas: BTreeMap<u64, Schema>,
+    schemas: BTreeMap<u64, Built>,
 }
 
 impl Drop for Replay {
@@ -50,10 +61,10 @@ impl Replay {
         let alloc = self.alloc;
         match text(case, "op") {
             "descriptor" => self.keep_descriptor(case, told),
-            "schema" => self.built(case, told),
+            "schema" => self.build(case, told),
             "reread" => self.reread(case, told),
             op => match self.schemas.get(&number(case, "schema")) {
-                Some(schema) => tell_of_schema(alloc, op, schema, case, told),
+                Some(built) => tell_of_schema(alloc, op, &built.schema, case, told),
                 None => tell_case_of_sources(alloc, case, told),
             },
         }
@@ -70,71 +81,90 @@ impl Replay {
     }
 
     /// Keeps a schema under the case's number.
-    fn keep(&mut self, case: &Value, schema: Schema, told: &mut Told<'_>) {
-        if self.schemas.insert(number(case, "id"), schema).is_err() {
+    fn keep(&mut self, case: &Value, built: Built, told: &mut Told<'_>) {
+        if self.schemas.insert(number(case, "id"), built).is_err() {
             told.give_up();
         }
     }
 
-    /// A schema of the case's steps, which is kept also where the last of them is refused.
-    fn built_from(&mut self, mut schema: Schema, case: &Value, told: &mut Told<'_>) {
-        tell_steps(self.alloc, &mut schema, items(case, "steps"), case, told);
-        self.keep(case, schema, told);
+    /// Builds a schema of the case's steps. It is kept also where the last of them is refused.
+    fn build(&mut self, case: &Value, told: &mut Told<'_>) {
+        let mut built = bare(self.alloc);
+        self.take_steps(&mut built.schema, case, told);
+        self.keep(case, built, told);
     }
 
-    /// A schema with no types of options, or with those of the descriptor that is kept.
-    fn built(&mut self, case: &Value, told: &mut Told<'_>) {
-        if !truth(case, "new") {
-            return self.built_from(Schema::bare(self.alloc), case, told);
-        }
-        match Schema::new(self.alloc, self.descriptor.as_str()) {
-            Ok(schema) => self.built_from(schema, case, told),
-            Err(error) => tell_refusal(self.alloc, told, &error),
+    /// Takes the case's steps, with no types of options or with those of the descriptor that is
+    /// kept.
+    fn take_steps(&self, schema: &mut Schema, case: &Value, told: &mut Told<'_>) {
+        if !truth(case, "new") || self.begin(schema, told) {
+            tell_steps(self.alloc, schema, items(case, "steps"), case, told);
         }
     }
 
-    /// A schema of another schema's own set, which has the same set again, and is kept under the
-    /// case's number.
+    /// Begins a schema with the types of the descriptor that is kept; false where it is refused.
+    fn begin(&self, schema: &mut Schema, told: &mut Told<'_>) -> bool {
+        let made = Schema::new(self.alloc, self.descriptor.as_str());
+        put_made(self.alloc, schema, made, told)
+    }
+
+    /// Reads the set of another schema, and keeps what is read under the case's number.
     fn reread(&mut self, case: &Value, told: &mut Told<'_>) {
-        let Some(schema) = self.schemas.get(&number(case, "schema")) else {
+        let Some(other) = self.schemas.get(&number(case, "schema")) else {
             return;
         };
-        match schema.to_descriptor_set() {
+        match other.schema.to_descriptor_set() {
             Ok(set) => self.read_again(set.as_slice(), case, told),
             Err(_) => told.give_up(),
         }
     }
 
-    /// A schema of a set, which is kept under the case's number.
+    /// Reads a set, and keeps what is read under the case's number.
     fn read_again(&mut self, set: &[u8], case: &Value, told: &mut Told<'_>) {
-        match Schema::from_descriptor_set(self.alloc, set) {
-            Ok(schema) => {
-                tell_same(&schema, set, told);
-                self.keep(case, schema, told);
-            }
-            Err(error) => tell_refusal(self.alloc, told, &error),
-        }
+        let mut built = bare(self.alloc);
+        tell_read(self.alloc, &mut built.schema, set, told);
+        self.keep(case, built, told);
     }
 }
 
-/// Tells whether a schema has the set that it was read from.
-fn tell_same(schema: &Schema, set: &[u8], told: &mut Told<'_>) {
-    let is_same = is_set_of(schema, set);
-    told.tell(
-        "ok",
-        if is_same {
-            "the same set"
-        } else {
-            "another set"
-        },
-    );
+/// Puts the schema of a set into the place, and tells whether that has the same set.
+fn tell_read(alloc: Global, place: &mut Schema, set: &[u8], told: &mut Told<'_>) {
+    let made = Schema::from_descriptor_set(alloc, set);
+    if put_made(alloc, place, made, told) {
+        let is_same = is_set_of(place, set);
+        told.tell(
+            "ok",
+            if is_same {
+                "the same set"
+            } else {
+                "another set"
+            },
+        );
+    }
 }
 
-/// Tells what the readers of a schema's descriptors answer.
-fn tell_described(alloc: Global, schema: &Schema, told: &mut Told<'_>) {
-    match described(alloc, schema.pool()) {
-        Ok(lines) => told.tell("ok", lines.as_str()),
-        Err(_) => told.give_up(),
+/// A schema without files.
+fn bare(alloc: Global) -> Built {
+    let schema = Schema::bare(alloc);
+    Built { schema }
+}
+
+/// Puts a schema that was made into the place, or tells why there is none.
+fn put_made(
+    alloc: Global,
+    place: &mut Schema,
+    made: Result<Schema, SchemaError>,
+    told: &mut Told<'_>,
+) -> bool {
+    match made {
+        Ok(schema) => {
+            *place = schema;
+            true
+        }
+        Err(error) => {
+            tell_refusal(alloc, told, &error);
+            false
+        }
     }
 }
 
@@ -142,26 +172,14 @@ fn tell_described(alloc: Global, schema: &Schema, told: &mut Told<'_>) {
 fn tell_of_schema(alloc: Global, op: &str, schema: &Schema, case: &Value, told: &mut Told<'_>) {
     match op {
         "options" => tell_options(alloc, schema.pool(), case, told),
-        "describe" => tell_described(alloc, schema, told),
-        "merge" => tell_merged(alloc, schema.pool(), case, told),
-        _ => match bytes(alloc, case, "bytes") {
-            Ok(bytes) => tell_of_bytes(alloc, op, schema, case, bytes.as_slice(), told),
+        "describe" => match described(alloc, schema.pool()) {
+            Ok(lines) => told.tell("ok", lines.as_str()),
             Err(_) => told.give_up(),
         },
-    }
-}
-
-/// What is asked of a schema and bytes.
-fn tell_of_bytes(
-    alloc: Global,
-    op: &str,
-    schema: &Schema,
-    case: &Value,
-    bytes: &[u8],
-    told: &mut Told<'_>,
-) {
-    match op {
-        "print" => tell_printed(alloc, schema.pool(), case, bytes, told),
-        _ => tell_asked(alloc, op, schema, case, bytes, told),
+        "merge" => tell_merged(alloc, schema.pool(), case, told),
+        _ => match bytes(alloc, case, "bytes") {
+            Ok(bytes) => tell_asked(alloc, op, schema, case, bytes.as_slice(), told),
+            Err(_) => told.give_up(),
+        },
     }
 }

@@ -6,14 +6,14 @@ use serde_json::Value;
 use sha2::{Digest, Sha256};
 use std::alloc::{AllocError, Global};
 use test_json::Told;
-use test_json::members::{bytes, items, text};
-use test_layers::tell_plain;
+use test_json::members::{bytes, items, pair, text};
+use test_sources::tell_plain;
 
 /// The sources of a step, each with its name.
 fn sources_of<'c>(alloc: Global, step: &'c Value) -> Result<Vec<(&'c str, &'c str)>, AllocError> {
     let mut sources = Vec::new(alloc);
     for source in items(step, "sources") {
-        if let Some([name, text]) = source.as_array().map(|pair| pair.as_slice()) {
+        if let Some((name, text)) = pair(source) {
             sources.push((name.as_str().unwrap_or(""), text.as_str().unwrap_or("")))?;
         }
     }
@@ -57,12 +57,21 @@ fn tell_last(
 ) {
     match add(alloc, schema, step) {
         Ok(()) => tell_set(alloc, schema, case, told),
-        Err(error) => {
-            tell_refusal(alloc, told, &error);
-            let is_left = is_set_of(schema, before);
-            told.tell("left", if is_left { "as it was" } else { "changed" });
-        }
+        Err(error) => tell_refused(alloc, schema, &error, before, told),
     }
+}
+
+/// Tells why a step is refused, and whether the schema still has the set that it had before.
+fn tell_refused(
+    alloc: Global,
+    schema: &Schema,
+    error: &SchemaError,
+    before: &[u8],
+    told: &mut Told<'_>,
+) {
+    tell_refusal(alloc, told, error);
+    let is_left = is_set_of(schema, before);
+    told.tell("left", if is_left { "as it was" } else { "changed" });
 }
 
 /// Takes the steps of a case, of which the last alone may be refused; and tells what the schema
@@ -85,17 +94,22 @@ pub fn tell_steps(
     }
 }
 
-/// The schema's set: its bytes, their digest, and the bytes without places of declarations.
-fn tell_set(alloc: Global, schema: &Schema, case: &Value, told: &mut Told<'_>) {
-    let Ok(set) = schema.to_descriptor_set() else {
-        return told.give_up();
-    };
+/// Tells a schema's set: its bytes, their digest, and the bytes without places of declarations.
+fn tell_linked(alloc: Global, set: &[u8], case: &Value, told: &mut Told<'_>) {
     told.tell("ok", "linked");
-    told.tell_bytes("set", set.as_slice());
+    told.tell_bytes("set", set);
     if told.asks("set_sha256") {
-        told.tell_bytes("set_sha256", Sha256::digest(set.as_slice()).as_slice());
+        told.tell_bytes("set_sha256", Sha256::digest(set).as_slice());
     }
     if told.asks("plain") {
-        tell_plain(alloc, told, set.as_slice(), text(case, "without"));
+        tell_plain(alloc, told, set, text(case, "without"));
+    }
+}
+
+/// Tells the set of a schema that has taken all steps.
+fn tell_set(alloc: Global, schema: &Schema, case: &Value, told: &mut Told<'_>) {
+    match schema.to_descriptor_set() {
+        Ok(set) => tell_linked(alloc, set.as_slice(), case, told),
+        Err(_) => told.give_up(),
     }
 }

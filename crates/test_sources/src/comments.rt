@@ -9,7 +9,7 @@ use test_json::{Text, Told};
 /// Writes the block behind a declaration.
 fn write_trailing(out: &mut Text, trailing: Option<String>) {
     match trailing {
-        Some(block) => write!(out, " >{:?}", block.as_str()),
+        Some(block) => out.push_quoted(" >", block.as_str()),
         None => out.push_str(" >none"),
     }
 }
@@ -17,10 +17,10 @@ fn write_trailing(out: &mut Text, trailing: Option<String>) {
 /// Writes the blocks in front of a declaration: detached ones, and that of the declaration.
 fn write_leading(out: &mut Text, detached: &[String], leading: Option<String>) {
     for block in detached {
-        write!(out, " -{:?}", block.as_str());
+        out.push_quoted(" -", block.as_str());
     }
     match leading {
-        Some(block) => write!(out, " <{:?}", block.as_str()),
+        Some(block) => out.push_quoted(" <", block.as_str()),
         None => out.push_str(" <none"),
     }
 }

@@ -9,20 +9,20 @@ use reflect_names::{
 use reflect_passes::DescriptorError;
 use std::alloc::{AllocError, Global};
 use std::collections::BTreeMap;
+use std::ops::Range;
 use test_json::Text;
 
 /// A file that imports one that is not there.
 const SOURCE: &str = "syntax = \"proto3\"; import \"b.proto\";";
 
-/// The faults of the names that files declare.
-fn faults_in(
+/// The faults of the names that files declare, behind those of the files' own.
+fn faults_behind(
     alloc: Global,
+    faults: Faults<'_>,
+    file_names: &BTreeMap<String, u32>,
     files: &[FileDescriptorProto],
 ) -> Result<Vec<DescriptorErrorKind>, VisitError> {
-    let mut faults = Faults::new(alloc, files, 0);
-    let mut file_names = BTreeMap::new(alloc);
-    name_files(alloc, &mut file_names, 0, files, &mut faults)?;
-    let mut names = NameVisitor::new(NameTable::new(alloc), faults, &file_names);
+    let mut names = NameVisitor::new(NameTable::new(alloc), faults, file_names);
     let none = Offsets {
         messages: 0,
         enums: 0,
@@ -34,32 +34,49 @@ fn faults_in(
     Ok(faults.into_list())
 }
 
+/// The faults of the names of files and of what they declare.
+fn faults_in(
+    alloc: Global,
+    files: &[FileDescriptorProto],
+) -> Result<Vec<DescriptorErrorKind>, VisitError> {
+    let mut faults = Faults::new(alloc, files, 0);
+    let mut file_names = BTreeMap::new(alloc);
+    name_files(alloc, &mut file_names, 0, files, &mut faults)?;
+    faults_behind(alloc, faults, &file_names, files)
+}
+
+/// The file of the source; none where it is refused.
+fn files_of_source(alloc: Global) -> Result<Vec<FileDescriptorProto>, AllocError> {
+    match parse(alloc, "a.proto", SOURCE) {
+        Ok(file) => Ok(vec![in alloc; file]?),
+        Err(_) => Ok(Vec::new(alloc)),
+    }
+}
+
 /// The faults of the source.
 fn faults_of_source(alloc: Global) -> Result<Vec<DescriptorErrorKind>, AllocError> {
-    let Ok(file) = parse(alloc, "a.proto", SOURCE) else {
-        return Ok(Vec::new(alloc));
-    };
-    let files = vec![in alloc; file]?;
+    let files = files_of_source(alloc)?;
     match faults_in(alloc, files.as_slice()) {
         Ok(faults) => Ok(faults),
         Err(_) => Err(AllocError),
     }
 }
 
-/// Writes the bytes of a label, if it has them.
-fn write_bytes(out: &mut Text, label: &Label) {
-    match label.span() {
-        Some(bytes) => write!(out, "{}..{} ", bytes.start, bytes.end),
-        None => out.push_str("no bytes "),
+/// Writes where a label or an error stands in its source, if it knows that.
+fn write_bytes(out: &mut Text, bytes: Option<Range<usize>>) {
+    match bytes {
+        Some(bytes) => out.push_span(bytes.start, bytes.end),
+        None => out.push_str("no bytes"),
     }
+    out.push_str(" ");
 }
 
 /// Writes the file, line and column of a fault, and its bytes.
 fn write_fault(out: &mut Text, fault: &DescriptorErrorKind) {
     if let Some(label) = fault.label() {
-        write!(out, "{} ", label.file());
+        out.push_pair(label.file(), " ");
         write!(out, "{:?} {:?} ", label.line(), label.column());
-        write_bytes(out, label);
+        write_bytes(out, label.span());
     }
 }
 
@@ -79,26 +96,22 @@ pub fn write_labels(alloc: Global, out: &mut Text) -> Result<(), AllocError> {
     let mut label = Label::new(alloc, "b", Vec::new(alloc), span)?;
     for source in ["a\nbcd\nef", "a\nbcd"] {
         label.resolve_span("b", source);
-        write_bytes(out, &label);
+        write_bytes(out, label.span());
     }
     Ok(())
 }
 
-/// Writes the bytes of an error's first fault, if it knows its source.
-fn write_error_bytes(out: &mut Text, error: &DescriptorError) {
-    match error.span() {
-        Some(bytes) => write!(out, "{}..{} ", bytes.start, bytes.end),
-        None => out.push_str("no bytes "),
-    }
+/// Writes the bytes of an error that knows its source, and the error.
+fn write_located(out: &mut Text, error: &DescriptorError) {
+    write_bytes(out, error.span());
+    write!(out, "{error:?}");
 }
 
 /// The bytes of the source's error, before and after it knows its source, and the error.
 pub fn write_error(alloc: Global, out: &mut Text) -> Result<(), AllocError> {
     if let Some(error) = DescriptorError::from_list(faults_of_source(alloc)?) {
-        write_error_bytes(out, &error);
-        let error = error.with_source_code(SOURCE);
-        write_error_bytes(out, &error);
-        write!(out, "{error:?}");
+        write_bytes(out, error.span());
+        write_located(out, &error.with_source_code(SOURCE));
     }
     Ok(())
 }
@@ -121,12 +134,18 @@ fn write_named(alloc: Global, out: &mut Text, files: &[FileDescriptorProto], fir
     }
 }
 
+fn named_files(alloc: Global, names: &[&str]) -> Result<Vec<FileDescriptorProto>, AllocError> {
+    let mut files = Vec::new(alloc);
+    for name in names {
+        files.push(named_file(alloc, name)?)?;
+    }
+    Ok(files)
+}
+
 /// Two files of which the second has the largest index, and of which the first has it.
 pub fn write_indexes(alloc: Global, out: &mut Text) -> Result<(), AllocError> {
     const LAST: u32 = 2_147_483_647;
-    let first = named_file(alloc, "a")?;
-    let second = named_file(alloc, "b")?;
-    let files = vec![in alloc; first, second]?;
+    let files = named_files(alloc, &["a", "b"])?;
     write_named(alloc, out, files.as_slice(), LAST - 1);
     write_named(alloc, out, files.as_slice(), LAST);
     Ok(())

@@ -20,10 +20,10 @@ use serde_json::Value;
 use sources::tell_parsed;
 pub use sources::tell_source_refusal;
 use std::alloc::Global;
-use std::fmt::Debug;
+use test_json::Told;
 use test_json::members::text;
-use test_json::{Text, Told};
 use tokens::{tell_text_tokens, tell_tokens};
+pub use wire::tell_plain;
 use wire::{tell_records, tell_set};
 
 /// Does what a case asks that has no schema, and tells what comes.
@@ -42,30 +42,5 @@ pub fn tell_case_of_sources(alloc: Global, case: &Value, told: &mut Told<'_>) {
         "file" => tell_file(alloc, case, told),
         "set" => tell_set(alloc, case, told),
         _ => {}
-    }
-}
-
-/// Tells under a name an enum's case: the word that its debug text begins with.
-pub fn tell_case<T: Debug>(alloc: Global, told: &mut Told<'_>, name: &'static str, value: &T) {
-    let mut shown = Text::new(alloc);
-    write_case(alloc, &mut shown, value);
-    told.tell_text(name, shown);
-}
-
-/// Writes the name of an enum's case.
-pub fn write_case<T: Debug>(alloc: Global, out: &mut Text, value: &T) {
-    match format!(in alloc; "{value:?}") {
-        Ok(shown) => write_word(out, shown.as_str()),
-        Err(_) => out.give_up(),
-    }
-}
-
-/// Writes the word that a text begins with.
-fn write_word(out: &mut Text, text: &str) {
-    for letter in text.chars() {
-        if !letter.is_ascii_alphanumeric() {
-            break;
-        }
-        write!(out, "{letter}");
     }
 }

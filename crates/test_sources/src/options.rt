@@ -12,9 +12,10 @@ fn write_name(out: &mut Text, option: &UninterpretedOption) {
     for part in &option.name {
         let name = part.name_part.as_str();
         if part.is_extension {
-            write!(out, ".({name})");
+            out.push_pair(".(", name);
+            out.push_str(")");
         } else {
-            write!(out, ".{name}");
+            out.push_pair(".", name);
         }
     }
 }
@@ -22,24 +23,24 @@ fn write_name(out: &mut Text, option: &UninterpretedOption) {
 /// Writes the values that are there, each behind what it is.
 fn write_values(out: &mut Text, option: &UninterpretedOption) {
     if let Some(word) = &option.identifier_value {
-        write!(out, " identifier {word}");
+        out.push_pair(" identifier ", word.as_str());
     }
     if let Some(number) = option.positive_int_value {
-        write!(out, " positive {number}");
+        out.push_shown(" positive ", number);
     }
     if let Some(number) = option.negative_int_value {
-        write!(out, " negative {number}");
+        out.push_shown(" negative ", number);
     }
     match &option.double_value {
-        Some(DoubleValue::Text(literal)) => write!(out, " double {literal}"),
-        Some(DoubleValue::Bits(bits)) => write!(out, " bits {bits}"),
+        Some(DoubleValue::Text(literal)) => out.push_pair(" double ", literal.as_str()),
+        Some(DoubleValue::Bits(bits)) => out.push_shown(" bits ", *bits),
         None => {}
     }
     if let Some(bytes) = &option.string_value {
         write!(out, " string {:?}", bytes.as_slice());
     }
     if let Some(tokens) = &option.aggregate_value {
-        write!(out, " aggregate {tokens}");
+        out.push_pair(" aggregate ", tokens.as_str());
     }
 }
 

@@ -5,22 +5,23 @@ use test_json::Text;
 
 /// Writes numbers with commas between them.
 pub fn write_numbers(out: &mut Text, numbers: &[i32]) {
-    for (i, number) in numbers.iter().enumerate() {
-        let gap = if i > 0 { "," } else { "" };
-        write!(out, "{gap}{number}");
+    let mut gap = "";
+    for number in numbers {
+        out.push_shown(gap, *number);
+        gap = ",";
     }
 }
 
 /// Writes the comments of a location: `-` is a detached one, `<` stands in front, `>` behind.
 fn write_comments(out: &mut Text, location: &Location) {
     for comment in &location.leading_detached_comments {
-        write!(out, " -{:?}", comment.as_str());
+        out.push_quoted(" -", comment.as_str());
     }
     if let Some(comment) = &location.leading_comments {
-        write!(out, " <{:?}", comment.as_str());
+        out.push_quoted(" <", comment.as_str());
     }
     if let Some(comment) = &location.trailing_comments {
-        write!(out, " >{:?}", comment.as_str());
+        out.push_quoted(" >", comment.as_str());
     }
 }
 

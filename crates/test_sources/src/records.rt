@@ -2,7 +2,6 @@
 
 use crate::options::write_enums;
 use crate::sources::{tell_options, tell_record};
-use crate::tell_case;
 use crate::wire::tell_written;
 use descriptor_records::{DescriptorProto, FieldType, FileDescriptorProto, Label, join_path};
 use reflect_codec::decode_file;
@@ -10,7 +9,7 @@ use reflect_wire::{UnknownField, UnknownFieldValue, WireError, WireType};
 use serde_json::Value;
 use std::alloc::{AllocError, Global};
 use test_json::members::{bytes, number};
-use test_json::{Text, Told};
+use test_json::{Text, Told, tell_case};
 
 /// The bytes of a record.
 fn written(alloc: Global, field: &UnknownField) -> Result<Vec<u8>, WireError> {

@@ -2,7 +2,6 @@
 
 use crate::options::write_file;
 use crate::places::{write_commented, write_places};
-use crate::write_case;
 use descriptor_records::FileDescriptorProto;
 use protox_lex::Span;
 use protox_parse::{ParseError, ParseErrorKind, parse};
@@ -10,7 +9,7 @@ use reflect_codec::encode_file;
 use serde_json::Value;
 use std::alloc::Global;
 use test_json::members::text;
-use test_json::{Text, Told};
+use test_json::{Text, Told, write_case};
 
 /// Tells the bytes of a record.
 pub fn tell_record(
@@ -45,18 +44,20 @@ pub fn tell_options(alloc: Global, told: &mut Told<'_>, file: &FileDescriptorPro
     told.tell_text("options", options);
 }
 
-/// The record of a source, with and without its places, its options, and its places and comments
-/// alone; or the refusal.
+/// Tells a record, with and without its places, its options, and its places and comments alone.
+fn tell_accepted(alloc: Global, told: &mut Told<'_>, file: &mut FileDescriptorProto) {
+    told.tell("ok", "accepted");
+    tell_options(alloc, told, file);
+    tell_places(alloc, told, file);
+    tell_record(alloc, told, "placed", file);
+    file.source_code_info = None;
+    tell_record(alloc, told, "record", file);
+}
+
+/// The record of a source, or the refusal.
 pub fn tell_parsed(alloc: Global, case: &Value, told: &mut Told<'_>) {
     match parse(alloc, text(case, "file"), text(case, "source")) {
-        Ok(mut file) => {
-            told.tell("ok", "accepted");
-            tell_options(alloc, told, &file);
-            tell_places(alloc, told, &file);
-            tell_record(alloc, told, "placed", &file);
-            file.source_code_info = None;
-            tell_record(alloc, told, "record", &file);
-        }
+        Ok(mut file) => tell_accepted(alloc, told, &mut file),
         Err(error) => tell_source_refusal(alloc, told, &error),
     }
 }
@@ -77,7 +78,7 @@ fn tell_faults(alloc: Global, told: &mut Told<'_>, faults: &[ParseErrorKind]) {
         write_case(alloc, &mut names, fault);
         if let Some(Span { start, end }) = fault.span() {
             write_gap(&mut spans);
-            write!(spans, "{start}..{end}");
+            spans.push_span(start, end);
         }
     }
     told.tell_text("codes", names);
@@ -90,7 +91,7 @@ pub fn tell_source_refusal(alloc: Global, told: &mut Told<'_>, error: &ParseErro
     tell_faults(alloc, told, error.faults());
     if let Some(Span { start, end }) = error.span() {
         let mut shown = Text::new(alloc);
-        write!(shown, "{start}..{end}");
+        shown.push_span(start, end);
         told.tell_text("span", shown);
     }
     if let Some(ParseErrorKind::UnexpectedToken { found, .. }) = error.kind() {

@@ -22,14 +22,14 @@ fn mark(token: &Token<'_>) -> &'static str {
 
 /// Writes a token, with a mark behind it where the text format alone has it.
 fn write_token(out: &mut Text, lexeme: &Lexeme<'_>) {
-    let (start, end) = (lexeme.span.start, lexeme.span.end);
     let letter = mark(&lexeme.token);
     let alone = if lexeme.text_format_fault().is_some() {
         "!"
     } else {
         ""
     };
-    write!(out, "{start}..{end} {letter}{}{alone} ", lexeme.token);
+    out.push_span(lexeme.span.start, lexeme.span.end);
+    write!(out, " {letter}{}{alone} ", lexeme.token);
 }
 
 /// The tokens of a source.
@@ -42,7 +42,8 @@ pub fn tell_tokens(alloc: Global, case: &Value, told: &mut Told<'_>) {
             Ok(Some(lexeme)) => write_token(&mut out, &lexeme),
             Ok(None) => break,
             Err(e) => {
-                write!(out, "{}..{} {:?}", e.span.start, e.span.end, e.kind);
+                out.push_span(e.span.start, e.span.end);
+                write!(out, " {:?}", e.kind);
                 break;
             }
         }
@@ -70,7 +71,8 @@ fn write_fault(out: &mut Text, error: TextFault) {
         TextFault::NoSpaceBetweenIntAndIdent(span) => ("NoSpaceBetweenIntAndIdent", span),
         TextFault::UnterminatedString => return out.push_str("UnterminatedString"),
     };
-    write!(out, "{}..{} {name}", span.start, span.end);
+    out.push_span(span.start, span.end);
+    out.push_pair(" ", name);
 }
 
 /// The tokens of a message's text.
@@ -81,9 +83,9 @@ pub fn tell_text_tokens(alloc: Global, case: &Value, told: &mut Told<'_>) {
     for _ in 0..=source.len() {
         match lexer.next() {
             Ok(Some(lexeme)) => {
-                let (start, end) = (lexeme.span.start, lexeme.span.end);
                 let letter = text_mark(lexeme.token);
-                write!(out, "{start}..{end} {letter}{} ", lexeme.token);
+                out.push_span(lexeme.span.start, lexeme.span.end);
+                write!(out, " {letter}{} ", lexeme.token);
             }
             Ok(None) => break,
             Err(error) => {

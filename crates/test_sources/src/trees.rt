@@ -13,13 +13,14 @@ fn span(start: usize, end: usize) -> Span {
 }
 
 fn write_span(out: &mut Text, span: Span) {
-    write!(out, "{}..{} ", span.start, span.end);
+    out.push_span(span.start, span.end);
+    out.push_str(" ");
 }
 
 /// Writes a text that a part is, if there was room for it.
 fn write_text(out: &mut Text, text: Result<String, AllocError>) {
     match text {
-        Ok(text) => write!(out, "{text} "),
+        Ok(text) => out.push_pair(text.as_str(), " "),
         Err(_) => out.give_up(),
     }
 }
@@ -136,7 +137,7 @@ fn write_literal(out: &mut Text, literal: Literal) {
     match literal.into_utf8() {
         Ok((text, place)) => {
             write_span(out, place);
-            write!(out, "{text} ");
+            out.push_pair(text.as_str(), " ");
         }
         Err(back) => write!(out, "no text {:?} ", back.value.as_slice()),
     }

@@ -1,7 +1,9 @@
 //! Values and keys that are changed in place. What there is no room for is said by the text that
 //! is written.
 
-use crate::given::{bytes_of, i32_of, put_entry, scalar_of, text_of, u32_of};
+use crate::given::{
+    bool_of, bytes_of, i32_of, i64_of, put_entry, scalar_of, text_of, u32_of, u64_of,
+};
 use crate::shown::{write_key, write_value};
 use reflect_dynamic::{DecodeMessage, DynamicMessage, MapKey, Value};
 use serde_json::Value as Json;
@@ -10,11 +12,8 @@ use std::collections::BTreeMap;
 use test_json::Text;
 use test_json::members::items;
 
-/// Puts what is given into the place, if there is both.
-fn put<T: Copy>(place: Option<&mut T>, given: Option<T>) -> bool {
-    let Some(given) = given else {
-        return false;
-    };
+/// Puts what is given into the place, if there is one.
+fn put<T: Copy>(place: Option<&mut T>, given: T) -> bool {
     match place {
         Some(place) => {
             *place = given;
@@ -26,25 +25,23 @@ fn put<T: Copy>(place: Option<&mut T>, given: Option<T>) -> bool {
 
 /// Changes a truth value or a number to the one that the call gives; `None` where it gives none.
 fn change_number(value: &mut Value<'_>, call: &Json) -> Option<bool> {
-    if let Some(truth) = call.get("bool") {
-        return Some(put(value.as_bool_mut(), truth.as_bool()));
+    if let Some(truth) = bool_of(call, "bool") {
+        return Some(put(value.as_bool_mut(), truth));
     }
-    if call.get("i32").is_some() {
-        return Some(put(value.as_i32_mut(), i32_of(call, "i32")));
+    if let Some(n) = i32_of(call, "i32") {
+        return Some(put(value.as_i32_mut(), n));
     }
-    if let Some(n) = call.get("i64") {
-        return Some(put(value.as_i64_mut(), n.as_i64()));
+    if let Some(n) = i64_of(call, "i64") {
+        return Some(put(value.as_i64_mut(), n));
     }
-    if call.get("u32").is_some() {
-        return Some(put(value.as_u32_mut(), u32_of(call, "u32")));
+    if let Some(n) = u32_of(call, "u32") {
+        return Some(put(value.as_u32_mut(), n));
     }
-    if let Some(n) = call.get("u64") {
-        return Some(put(value.as_u64_mut(), n.as_u64()));
+    if let Some(n) = u64_of(call, "u64") {
+        return Some(put(value.as_u64_mut(), n));
     }
-    if call.get("enum").is_some() {
-        return Some(put(value.as_enum_number_mut(), i32_of(call, "enum")));
-    }
-    None
+    let number = i32_of(call, "enum")?;
+    Some(put(value.as_enum_number_mut(), number))
 }
 
 /// Puts a text behind the one of the place, if there is one.
@@ -150,30 +147,22 @@ pub fn change(alloc: Global, out: &mut Text, value: &mut Value<'_>, call: &Json)
     }
 }
 
-/// Changes the value that a field lends, as `change` does, or writes that there is no such field.
-pub fn change_lent(alloc: Global, out: &mut Text, lent: Option<&mut Value<'_>>, call: &Json) {
-    match lent {
-        Some(value) => change(alloc, out, value, call),
-        None => out.push_str("none"),
-    }
-}
-
 /// Changes a key by what the call gives of one sort; false where the key is of another sort.
 fn change_key_to(out: &mut Text, key: &mut MapKey, call: &Json) -> bool {
-    if let Some(truth) = call.get("bool") {
-        return put(key.as_bool_mut(), truth.as_bool());
+    if let Some(truth) = bool_of(call, "bool") {
+        return put(key.as_bool_mut(), truth);
     }
-    if call.get("i32").is_some() {
-        return put(key.as_i32_mut(), i32_of(call, "i32"));
+    if let Some(n) = i32_of(call, "i32") {
+        return put(key.as_i32_mut(), n);
     }
-    if let Some(n) = call.get("i64") {
-        return put(key.as_i64_mut(), n.as_i64());
+    if let Some(n) = i64_of(call, "i64") {
+        return put(key.as_i64_mut(), n);
     }
-    if call.get("u32").is_some() {
-        return put(key.as_u32_mut(), u32_of(call, "u32"));
+    if let Some(n) = u32_of(call, "u32") {
+        return put(key.as_u32_mut(), n);
     }
-    if let Some(n) = call.get("u64") {
-        return put(key.as_u64_mut(), n.as_u64());
+    if let Some(n) = u64_of(call, "u64") {
+        return put(key.as_u64_mut(), n);
     }
     match text_of(call, "string") {
         Some(text) => push_text(out, key.as_string_mut(), text),

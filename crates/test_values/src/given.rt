@@ -8,7 +8,7 @@ use serde_json::Value as Json;
 use std::alloc::{AllocError, Global};
 use std::collections::BTreeMap;
 use test_json::Text;
-use test_json::members::{bytes, items, text};
+use test_json::members::{bytes, items, pair, text};
 
 /// The signed number of a member, if it fits in 32 bits.
 pub fn i32_of(given: &Json, name: &'static str) -> Option<i32> {
@@ -20,6 +20,21 @@ pub fn u32_of(given: &Json, name: &'static str) -> Option<u32> {
     u32::try_from(given.get(name)?.as_u64()?).ok()
 }
 
+/// The signed number of a member.
+pub fn i64_of(given: &Json, name: &'static str) -> Option<i64> {
+    given.get(name)?.as_i64()
+}
+
+/// The natural number of a member.
+pub fn u64_of(given: &Json, name: &'static str) -> Option<u64> {
+    given.get(name)?.as_u64()
+}
+
+/// The truth value of a member.
+pub fn bool_of(given: &Json, name: &'static str) -> Option<bool> {
+    given.get(name)?.as_bool()
+}
+
 /// The text of a member.
 pub fn text_of<'c>(given: &'c Json, name: &'static str) -> Option<&'c str> {
     given.get(name)?.as_str()
@@ -27,14 +42,14 @@ pub fn text_of<'c>(given: &'c Json, name: &'static str) -> Option<&'c str> {
 
 /// The truth value or the number that an object gives under the name of its sort.
 pub fn number_of<'p>(given: &Json) -> Option<Value<'p>> {
-    if let Some(truth) = given.get("bool") {
-        return Some(Value::Bool(truth.as_bool()?));
+    if let Some(truth) = bool_of(given, "bool") {
+        return Some(Value::Bool(truth));
     }
-    if let Some(n) = given.get("i64") {
-        return Some(Value::I64(n.as_i64()?));
+    if let Some(n) = i64_of(given, "i64") {
+        return Some(Value::I64(n));
     }
-    if let Some(n) = given.get("u64") {
-        return Some(Value::U64(n.as_u64()?));
+    if let Some(n) = u64_of(given, "u64") {
+        return Some(Value::U64(n));
     }
     if let Some(n) = u32_of(given, "u32") {
         return Some(Value::U32(n));
@@ -144,7 +159,7 @@ pub fn put_entry(
     entries: &mut BTreeMap<MapKey, Value<'_>>,
     entry: &Json,
 ) {
-    let Some([key, value]) = entry.as_array().map(|pair| pair.as_slice()) else {
+    let Some((key, value)) = pair(entry) else {
         return;
     };
     if let Some(key) = scalar_of(alloc, out, key).into_map_key() {

@@ -11,7 +11,7 @@ mod types;
 mod values;
 
 pub use answers::{Answers, replay_calls, write_other};
-pub use changes::{change, change_lent};
+pub use changes::change;
 pub use given::{bytes_of, i32_of, list_of, message_of, scalar_of, text_of, u32_of, value_of};
 pub use keys::replay_key;
 pub use shown::{

@@ -72,13 +72,13 @@ fn write_record(out: &mut Text, field: Option<FieldDescriptor<'_>>) {
     };
     let record = field.field_descriptor_proto();
     if let Some(number) = record.field_type {
-        write!(out, "type {number}");
+        out.push_shown("type ", number);
     }
     if let Some(name) = &record.type_name {
-        write!(out, " {name}");
+        out.push_pair(" ", name.as_str());
     }
     if let Some(options) = &record.options {
-        write!(out, " options {}", options.encoded.len());
+        out.push_shown(" options ", options.encoded.len());
     }
 }
 

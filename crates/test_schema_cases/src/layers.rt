@@ -1,11 +1,10 @@
-//! What is told of the refusals of layers below a schema.
+//! What is told of the refusals of layers below a schema: of linking and of options.
 
 use reflect_build::DescriptorError;
-use reflect_text::{OptionError, OptionErrorKind, ParseError};
+use reflect_text::{OptionError, OptionErrorKind};
 use std::alloc::{AllocError, Global};
 use std::collections::BTreeSet;
-use test_json::{Text, Told};
-use test_sources::{tell_case, write_case};
+use test_json::{Text, Told, tell_case, write_case};
 
 /// The names of faults, each once and by the alphabet.
 fn names_of(alloc: Global, error: &DescriptorError) -> Result<BTreeSet<String>, AllocError> {
@@ -55,17 +54,4 @@ pub fn tell_option_refusal(alloc: Global, told: &mut Told<'_>, error: &OptionErr
         }
         _ => {}
     }
-}
-
-/// A text is refused with a fault at a place and in words.
-pub fn tell_text_refusal(alloc: Global, told: &mut Told<'_>, error: &ParseError) {
-    tell_case(alloc, told, "codes", error.kind());
-    if let Some(span) = error.span() {
-        let mut shown = Text::new(alloc);
-        write!(shown, "{}..{}", span.start, span.end);
-        told.tell_text("span", shown);
-    }
-    let mut shown = Text::new(alloc);
-    write!(shown, "{error}");
-    told.tell_text("text", shown);
 }

@@ -1,13 +1,14 @@
-//! Texts of messages, out and in.
+//! Texts of messages, out and in, and why they are refused.
 
-use crate::refusals::tell_text_refusal;
 use reflect_dynamic::{DecodeMessage, DynamicMessage, EncodeMessage};
+use reflect_format::ParseError;
 use reflect_link::{DescriptorPool, PoolReaders};
-use reflect_text::{FormatOptions, TextFormat};
+use reflect_print::FormatOptions;
 use serde_json::Value;
 use std::alloc::Global;
-use test_json::Told;
 use test_json::members::{text, truth};
+use test_json::{Text, Told, tell_case};
+use text_format::TextFormat;
 
 /// The form of text that a case names.
 fn form(case: &Value) -> FormatOptions {
@@ -55,4 +56,17 @@ pub fn tell_merged(alloc: Global, pool: &DescriptorPool, case: &Value, told: &mu
         Ok(left) => told.tell_bytes("left", left.as_slice()),
         Err(_) => told.give_up(),
     }
+}
+
+/// A text is refused with a fault at a place and in words.
+pub fn tell_text_refusal(alloc: Global, told: &mut Told<'_>, error: &ParseError) {
+    tell_case(alloc, told, "codes", error.kind());
+    if let Some(span) = error.span() {
+        let mut shown = Text::new(alloc);
+        shown.push_span(span.start, span.end);
+        told.tell_text("span", shown);
+    }
+    let mut shown = Text::new(alloc);
+    write!(shown, "{error}");
+    told.tell_text("text", shown);
 }

@@ -1,13 +1,12 @@
 //! Files of cases, a line of JSON for each: they are replayed in their order, and what does not
 //! hold is printed, and how many of each kind do.
-#![tactic(auto)]
 
+use crate::members::text;
 use serde_json::Value;
 use std::alloc::{AllocError, Global};
 use std::collections::BTreeMap;
 use std::io::ErrorKind;
 use std::{env, fs, io};
-use test_json::members::text;
 
 /// What replays the cases of a file.
 pub trait Replays: Drop {
