@@ -17,6 +17,7 @@ use Rattle.print_parts.specs.Expands.{Expands, FindsByUrl, IsFault, IsUnder, Lac
 use Rattle.print_parts.specs.Parts.{url_in}
 use Rattle.protobuf_model.specs.Types.{Name}
 use Rattle.protobuf_model.specs.Values.{Message}
+use Rattle.text_model.specs.Expansions.{HoldsMessage}
 use Rattle.text_model.specs.Forms.{Form}
 use Rattle.text_model.specs.Printed.{Inner, bytes_in, expanded_as, held_in, in_any, last_slash, text_in}
 use Rattle.text_model.specs.Schemas.{Schema}
@@ -83,7 +84,25 @@ never : (c : Bool) → ◌≡◌ {A = Option Fields} (cond c None None) None
 never true = refl
 never false = refl
 
-module _ (form : Form) (decoded : Name → Text → Option Message) (inner : Inner) (m : DynamicMessage) (sound : IsSound m.descriptor.pool.now) (usual : HasUsualAny m.descriptor.pool.now) (decodes : DecodesIn m.descriptor.pool.now decoded)
+-- what the model expands an Any as, whose bytes mean a message
+pub expanded_in : (form : Form) (w : Schema) (inner : Inner) (t : Name) (m : Message) (url : Text × Text) (u : Name) (held : Message) → form.expands ≡ true → HoldsMessage w t m url u held
+    → in_any form w inner t m ≡ option_map (expanded_as url) (inner u held)
+expanded_in form w inner t m url u held expands h =
+    ap (λ e. cond (e && w.is_any t) (option_and_then as_url (last_slash (text_in (m 1)))) None) expands
+    ∙ ap (λ b. cond b (option_and_then as_url (last_slash (text_in (m 1)))) None) h.any
+    ∙ ap (option_and_then as_url) h.slash
+    ∙ ap (λ o. option_map (expanded_as url) (option_and_then (held_in w inner url.1) o)) h.there
+    ∙ ap (λ o. option_map (expanded_as url) (option_and_then (λ u. option_and_then (inner u) (w.decoded u h.bytes)) o)) h.known
+    ∙ ap (λ o. option_map (expanded_as url) (option_and_then (inner u) o)) h.decoded where
+      as_url : Text × Text → Option Fields
+      as_url url = option_map (expanded_as url) (option_and_then (held_in w inner url.1) (bytes_in (m 2)))
+
+-- the message that an Any is expanded as
+abbrev pub HeldIn : PoolType → (Name → Text → Option Message) → DynamicMessage → Text → DynamicMessage → Type 0
+HeldIn pool decoded m url body = (u : Text × Text) × (u.0 ++ 47 ∷ u.1 ≡ url) × (body.descriptor.pool.now ≡ pool) × Shaped 101 body
+    × HoldsMessage (schema_of pool decoded) (name_at pool m.descriptor.index) (view m) u (name_at pool body.descriptor.index) (view body)
+
+module _ (decoded : Name → Text → Option Message) (m : DynamicMessage) (sound : IsSound m.descriptor.pool.now) (usual : HasUsualAny m.descriptor.pool.now) (decodes : DecodesIn m.descriptor.pool.now decoded)
     (levels : ℕ) (shaped : IsShaped (Shaped levels) m.descriptor (content_of m)) where
   abbrev its_pool : PoolType
   its_pool = m.descriptor.pool.now
@@ -100,84 +119,88 @@ module _ (form : Form) (decoded : Name → Text → Option Message) (inner : Inn
   here : is_any_at its_pool (place_in its_pool.messages t) ≡ is_any_at its_pool at
   here = ap (is_any_at its_pool) (placed its_pool.messages at m.descriptor.in_range (λ k less e. sound.names at k m.descriptor.in_range less e))
 
-  -- by whether it is an Any, its URL, and its bytes
-  abbrev under_url : Option Text → Text × Text → Option Fields
-  under_url b url = option_map (expanded_as url) (option_and_then (held_in w inner url.1) b)
-
-  abbrev of_parts : Bool → Text → Option Text → Option Fields
-  of_parts is u b = cond (form.expands && is) (option_and_then (under_url b) (last_slash u)) None
-
   url_is : IsAny m.descriptor → (u : Value) → IsUnder m 1 u → text_in (view m 1) ≡ url_in (any.text_of u)
   url_is is u under = text_under m sound.apart levels shaped u under is.1 (λ g k. usual at 1 g (any_told m.descriptor is) k)
 
   bytes_are : IsAny m.descriptor → (b : Value) → IsUnder m 2 b → bytes_in (view m 2) ≡ any.bytes_of b
   bytes_are is b under = bytes_under m sound.apart levels shaped b under is.2 (λ g k. usual at 2 g (any_told m.descriptor is) k)
 
-  no_type : (url : Text) (b : Option Text) → FindsByUrl its_pool url None → of_parts true url b ≡ None
-  no_type url b (inl none) = ap (λ o. cond (form.expands && true) (option_and_then (under_url b) o) None) (no_slash url none.0) ∙ never (form.expands && true)
-  no_type url b (inr (front, name, is, lacks, missing)) =
-      ap (λ o. cond (form.expands && true) (option_and_then (under_url b) o) None) (ap last_slash is ∙ found_slash front name lacks)
-      ∙ ap (λ o. cond (form.expands && true) (option_map (expanded_as (front, name)) o) None) (nothing b)
-      ∙ never (form.expands && true) where
-        nothing : (b : Option Text) → option_and_then (held_in w inner name) b ≡ None
-        nothing None = refl
-        nothing (Some bytes) = ap (option_and_then (λ u. option_and_then (inner u) (decoded u bytes))) (type_missing its_pool name missing)
-
-  no_bytes : (o : Option (Text × Text)) → option_and_then (under_url None) o ≡ None
-  no_bytes None = refl
-  no_bytes (Some url) = refl
-
-  not_decoded : (d : MessageDescriptor) → d.pool.now ≡ its_pool → (bytes : Text) (e : WireError) → IsFault e → TellsWhy d bytes e → decoded (name_at its_pool d.index) bytes ≡ None
-  not_decoded d there bytes e fault why = by (decoded (name_at its_pool d.index) bytes) refl where
-    by : (o : Option Message) → decoded (name_at its_pool d.index) bytes ≡ o → o ≡ None
-    by None is = refl
-    by (Some v) is = let s = (decodes d there bytes v).0 is in absurd (told_excluded d (subst IsSound (sym there) sound) bytes e fault why s.0 s.2)
-
-  not_held : (url bytes : Text) (d : MessageDescriptor) → FindsByUrl its_pool url (Some d) → decoded (name_at its_pool d.index) bytes ≡ None → of_parts true url (Some bytes) ≡ None
-  not_held url bytes d (inl none) undecoded = absurd (cc none.1)
-  not_held url bytes d (inr (front, name, is, lacks, found)) undecoded =
-      ap (λ o. cond (form.expands && true) (option_and_then (under_url (Some bytes)) o) None) (ap last_slash is ∙ found_slash front name lacks)
-      ∙ ap (λ o. cond (form.expands && true) (option_map (expanded_as (front, name)) (option_and_then (λ u. option_and_then (inner u) (decoded u bytes)) o)) None) (type_found its_pool name d found)
-      ∙ ap (λ o. cond (form.expands && true) (option_map (expanded_as (front, name)) (option_and_then (inner (name_at its_pool d.index)) o)) None) undecoded
-      ∙ never (form.expands && true)
-
-  none_of : IsAny m.descriptor → Expands m None → of_parts true (text_in (view m 1)) (bytes_in (view m 2)) ≡ None
-  none_of is (other none) = absurd (none is)
-  none_of is (without_url u under none) = ap (λ z. of_parts true z (bytes_in (view m 2))) (url_is is u under ∙ ap url_in none) ∙ never (form.expands && true)
-  none_of is (without_type u url under told finds) = ap (λ z. of_parts true z (bytes_in (view m 2))) (url_is is u under ∙ ap url_in told) ∙ no_type url (bytes_in (view m 2)) finds
-  none_of is (without_bytes b under none) =
-      ap (of_parts true (text_in (view m 1))) (bytes_are is b under ∙ none)
-      ∙ ap (λ o. cond (form.expands && true) o None) (no_bytes (last_slash (text_in (view m 1)))) ∙ never (form.expands && true)
-  none_of is (refused u b url bytes d e under told finds there beside read fault why) =
-      ap₂ (of_parts true) (url_is is u under ∙ ap url_in told) (bytes_are is b beside ∙ read)
-      ∙ not_held url bytes d finds (not_decoded d there bytes e fault why)
-
-  -- nothing is, where the printer finds nothing
-  pub not_expanded : Expands m None → in_any form w inner t (view m) ≡ None
-  not_expanded none = by (is_any_at its_pool at) refl where
-    by : (b : Bool) → is_any_at its_pool at ≡ b → of_parts (is_any_at its_pool (place_in its_pool.messages t)) (text_in (view m 1)) (bytes_in (view m 2)) ≡ None
-    by false e = ap (λ b. of_parts b (text_in (view m 1)) (bytes_in (view m 2))) (here ∙ e) ∙ off form.expands (option_and_then (under_url (bytes_in (view m 2))) (last_slash (text_in (view m 1))))
-    by true e = ap (λ b. of_parts b (text_in (view m 1)) (bytes_in (view m 2))) (here ∙ e) ∙ none_of (told_any m.descriptor e) none
-
-  -- and what it finds is
-  pub is_expanded : {url : Text} {body : DynamicMessage} → form.expands ≡ true → Expands m (Some (url, body))
-      → (u : Text × Text) × (u.0 ++ 47 ∷ u.1 ≡ url) × (body.descriptor.pool.now ≡ its_pool) × Shaped 101 body
-      × (in_any form w inner t (view m) ≡ option_map (expanded_as u) (inner (name_at its_pool body.descriptor.index) (view body)))
-  is_expanded expands (holds u b url bytes d body is under told finds there beside read type spelled) = by finds where
-    by : FindsByUrl its_pool url (Some d)
-        → (u : Text × Text) × (u.0 ++ 47 ∷ u.1 ≡ url) × (body.descriptor.pool.now ≡ its_pool) × Shaped 101 body
-        × (in_any form w inner t (view m) ≡ option_map (expanded_as u) (inner (name_at its_pool body.descriptor.index) (view body)))
+  -- the message that the printer finds in the Any is held by it
+  held_in_any : {url : Text} {body : DynamicMessage} → Expands m (Some (url, body)) → HeldIn its_pool decoded m url body
+  held_in_any (holds u b url bytes d body is under told finds there beside read type spelled) = by finds where
+    by : FindsByUrl its_pool url (Some d) → HeldIn its_pool decoded m url body
     by (inl none) = absurd (cc none.1)
     by (inr (front, name, whole, lacks, found)) = (
       (front, name),
       sym whole,
       ap (λ (d : MessageDescriptor). d.pool.now) type ∙ there,
       decoded_shaped d bytes body type spelled,
-      ap (λ b. of_parts b (text_in (view m 1)) (bytes_in (view m 2))) (here ∙ any_told m.descriptor is)
-          ∙ ap₂ (of_parts true) (url_is is u under ∙ ap url_in told) (bytes_are is b beside ∙ read)
-          ∙ ap (λ e. cond (e && true) (option_and_then (under_url (Some bytes)) (last_slash url)) None) expands
-          ∙ ap (option_and_then (under_url (Some bytes))) (ap last_slash whole ∙ found_slash front name lacks)
-          ∙ ap (λ o. option_map (expanded_as (front, name)) (option_and_then (λ u. option_and_then (inner u) (decoded u bytes)) o)) (type_found its_pool name d found)
-          ∙ ap (λ o. option_map (expanded_as (front, name)) (option_and_then (inner (name_at its_pool d.index)) o)) ((decodes d there bytes (view body)).1 (body, type, spelled, refl))
-          ∙ ap (λ (x : MessageDescriptor). option_map (expanded_as (front, name)) (inner (name_at its_pool x.index) (view body))) (sym type),
+      subst (λ (e : MessageDescriptor). HoldsMessage w t (view m) (front, name) (name_at its_pool e.index) (view body)) (sym type) (record {
+        any = here ∙ any_told m.descriptor is;
+        slash = ap last_slash (url_is is u under ∙ ap url_in told ∙ whole) ∙ found_slash front name lacks;
+        known = type_found its_pool name d found;
+        bytes = bytes;
+        there = bytes_are is b beside ∙ read;
+        decoded = (decodes d there bytes (view body)).1 (body, type, spelled, refl);
+      }),
     )
+
+  module _ (form : Form) (inner : Inner) where
+    -- by whether it is an Any, its URL, and its bytes
+    abbrev under_url : Option Text → Text × Text → Option Fields
+    under_url b url = option_map (expanded_as url) (option_and_then (held_in w inner url.1) b)
+
+    abbrev of_parts : Bool → Text → Option Text → Option Fields
+    of_parts is u b = cond (form.expands && is) (option_and_then (under_url b) (last_slash u)) None
+
+    no_type : (url : Text) (b : Option Text) → FindsByUrl its_pool url None → of_parts true url b ≡ None
+    no_type url b (inl none) = ap (λ o. cond (form.expands && true) (option_and_then (under_url b) o) None) (no_slash url none.0) ∙ never (form.expands && true)
+    no_type url b (inr (front, name, is, lacks, missing)) =
+        ap (λ o. cond (form.expands && true) (option_and_then (under_url b) o) None) (ap last_slash is ∙ found_slash front name lacks)
+        ∙ ap (λ o. cond (form.expands && true) (option_map (expanded_as (front, name)) o) None) (nothing b)
+        ∙ never (form.expands && true) where
+          nothing : (b : Option Text) → option_and_then (held_in w inner name) b ≡ None
+          nothing None = refl
+          nothing (Some bytes) = ap (option_and_then (λ u. option_and_then (inner u) (decoded u bytes))) (type_missing its_pool name missing)
+
+    no_bytes : (o : Option (Text × Text)) → option_and_then (under_url None) o ≡ None
+    no_bytes None = refl
+    no_bytes (Some url) = refl
+
+    not_decoded : (d : MessageDescriptor) → d.pool.now ≡ its_pool → (bytes : Text) (e : WireError) → IsFault e → TellsWhy d bytes e → decoded (name_at its_pool d.index) bytes ≡ None
+    not_decoded d there bytes e fault why = by (decoded (name_at its_pool d.index) bytes) refl where
+      by : (o : Option Message) → decoded (name_at its_pool d.index) bytes ≡ o → o ≡ None
+      by None is = refl
+      by (Some v) is = let s = (decodes d there bytes v).0 is in absurd (told_excluded d (subst IsSound (sym there) sound) bytes e fault why s.0 s.2)
+
+    not_held : (url bytes : Text) (d : MessageDescriptor) → FindsByUrl its_pool url (Some d) → decoded (name_at its_pool d.index) bytes ≡ None → of_parts true url (Some bytes) ≡ None
+    not_held url bytes d (inl none) undecoded = absurd (cc none.1)
+    not_held url bytes d (inr (front, name, is, lacks, found)) undecoded =
+        ap (λ o. cond (form.expands && true) (option_and_then (under_url (Some bytes)) o) None) (ap last_slash is ∙ found_slash front name lacks)
+        ∙ ap (λ o. cond (form.expands && true) (option_map (expanded_as (front, name)) (option_and_then (λ u. option_and_then (inner u) (decoded u bytes)) o)) None) (type_found its_pool name d found)
+        ∙ ap (λ o. cond (form.expands && true) (option_map (expanded_as (front, name)) (option_and_then (inner (name_at its_pool d.index)) o)) None) undecoded
+        ∙ never (form.expands && true)
+
+    none_of : IsAny m.descriptor → Expands m None → of_parts true (text_in (view m 1)) (bytes_in (view m 2)) ≡ None
+    none_of is (other none) = absurd (none is)
+    none_of is (without_url u under none) = ap (λ z. of_parts true z (bytes_in (view m 2))) (url_is is u under ∙ ap url_in none) ∙ never (form.expands && true)
+    none_of is (without_type u url under told finds) = ap (λ z. of_parts true z (bytes_in (view m 2))) (url_is is u under ∙ ap url_in told) ∙ no_type url (bytes_in (view m 2)) finds
+    none_of is (without_bytes b under none) =
+        ap (of_parts true (text_in (view m 1))) (bytes_are is b under ∙ none)
+        ∙ ap (λ o. cond (form.expands && true) o None) (no_bytes (last_slash (text_in (view m 1)))) ∙ never (form.expands && true)
+    none_of is (refused u b url bytes d e under told finds there beside read fault why) =
+        ap₂ (of_parts true) (url_is is u under ∙ ap url_in told) (bytes_are is b beside ∙ read)
+        ∙ not_held url bytes d finds (not_decoded d there bytes e fault why)
+
+    -- nothing is, where the printer finds nothing
+    pub not_expanded : Expands m None → in_any form w inner t (view m) ≡ None
+    not_expanded none = by (is_any_at its_pool at) refl where
+      by : (b : Bool) → is_any_at its_pool at ≡ b → of_parts (is_any_at its_pool (place_in its_pool.messages t)) (text_in (view m 1)) (bytes_in (view m 2)) ≡ None
+      by false e = ap (λ b. of_parts b (text_in (view m 1)) (bytes_in (view m 2))) (here ∙ e) ∙ off form.expands (option_and_then (under_url (bytes_in (view m 2))) (last_slash (text_in (view m 1))))
+      by true e = ap (λ b. of_parts b (text_in (view m 1)) (bytes_in (view m 2))) (here ∙ e) ∙ none_of (told_any m.descriptor e) none
+
+-- so it is in the pool that the message is of
+pub held_at : (pool : PoolType) (decoded : Name → Text → Option Message) (levels : ℕ) (m : DynamicMessage) → m.descriptor.pool.now ≡ pool → Shaped (suc levels) m → IsSound pool → DecodesIn pool decoded × HasUsualAny pool
+    → (url : Text) (body : DynamicMessage) → Expands m (Some (url, body)) → HeldIn pool decoded m url body
+held_at pool decoded levels m there shaped sound expandable url body some =
+    subst (λ q. IsSound q → DecodesIn q decoded × HasUsualAny q → HeldIn q decoded m url body) there (λ s e. held_in_any decoded m s e.1 e.0 levels shaped some) sound expandable

@@ -22,6 +22,7 @@ use Rattle.text_model.specs.Schemas.{Schema}
 use Rattle.text_model.specs.Texts.{Gives, IsText}
 use Rattle.text_model.specs.Tokens.{open_braces}
 use Rattle.text_model.specs.Tree.{Fields}
+use Rattle.text_model.specs.Unset.{HaveReadDefaults}
 use Rattle.text_model.proofs.Back.{printed_text_back}
 use Rattle.text_model.proofs.Merging.{one_message}
 use Rattle.message_view.specs.Types.{name_at, types_of}
@@ -33,14 +34,13 @@ use Rattle.text_view.specs.Schemas.{schema_of}
 use Rattle.text_view.specs.SourceNames.{HasSourceNames}
 use Rattle.text_view.proofs.HaveNames.{have_identifiers, have_names}
 use Rattle.text_view.proofs.Made.{made_given, none_given}
-use Rattle.text_model.specs.Unset as model
 use Rattle.print_view.specs.Expansions.{DecodesIn, HasUsualAny}
-use Rattle.print_view.specs.Forms.{form_of, HaveMessagePresence, HaveReadDefaults}
+use Rattle.print_view.specs.Forms.{form_of}
+use Rattle.print_view.proofs.Presence.{have_presence}
 use Rattle.print_view.proofs.Printed.{fields_printed}
-use Rattle.print_view.proofs.Unset.{have_read_defaults}
 
-module _ (options : FormatOptions) (declared : options.skip_unknown_fields ≡ true) (decoded : Name → Text → Option Message) (d : MessageDescriptor) (sound : IsSound d.pool.now)
-    (named : HasSourceNames d.pool.now) (told : options.skip_default_fields ≡ false → HaveMessagePresence d.pool.now × HaveReadDefaults d.pool.now)
+module _ (options : FormatOptions) (decoded : Name → Text → Option Message) (d : MessageDescriptor) (sound : IsSound d.pool.now)
+    (named : HasSourceNames d.pool.now) (told : options.skip_default_fields ≡ false → HaveReadDefaults (types_of d.pool.now))
     (expandable : options.expand_any ≡ true → DecodesIn d.pool.now decoded × HasUsualAny d.pool.now) (bytes : List ℕ) (are : AreBytes bytes) (m : DynamicMessage) (type : m.descriptor ≡ d) (spelled : IsSpelled d bytes m) where
   abbrev w : Schema
   w = schema_of d.pool.now decoded
@@ -50,8 +50,8 @@ module _ (options : FormatOptions) (declared : options.skip_unknown_fields ≡ t
   form = form_of options
 
   -- what it prints of fields that are not set is read so
-  reads : form.defaults ≡ true → model.HaveReadDefaults w.types
-  reads e = let its = told (not-true options.skip_default_fields e) in have_read_defaults d.pool.now sound its.0 its.1
+  reads : form.defaults ≡ true → HaveReadDefaults w.types
+  reads e = told (not-true options.skip_default_fields e)
 
   abbrev t : Name
   t = name_at d.pool.now d.index
@@ -59,7 +59,7 @@ module _ (options : FormatOptions) (declared : options.skip_unknown_fields ≡ t
   module _ (plain : IsPlain (types_of d.pool.now) t (view m)) (forms : options.expand_any ≡ true → HasOneForm 100 w t (view m)) (shallow : open_braces (printed form w t (view m)) ≤ 100) (z : Text) (text : IsMessageText options m z) where
     -- the text gives what is seen of the message
     gives : Gives w t z (view m)
-    gives = subst (λ z. Gives w t z (view m)) (sym (fields_printed options declared decoded d sound (λ e. (told e).0) expandable bytes m type spelled z text))
+    gives = subst (λ z. Gives w t z (view m)) (sym (fields_printed options decoded d sound (λ e. have_presence d.pool.now sound (told e)) expandable bytes m type spelled (λ e. (plain, forms)) z text))
         (printed_text_back form w (have_names d.pool.now sound named decoded) (have_identifiers d.pool.now sound named decoded) reads t (view m) (decoded_suits d sound bytes are m type spelled) plain forms shallow)
 
     -- so what it makes is written as the message is

@@ -28,6 +28,11 @@ module _ {X : Type 0} where
     by true ih = ap (λ l. g n ++ l) ih
     by false ih = ih
 
+-- what rises does not end below its start
+pub rise_ends : {V : Type 0} → (low high : ℕ) (es : List (ℕ × V)) → Rise low high es → low ≤ suc high
+rise_ends low high [] r = r
+rise_ends low high (e ∷ es) r = let rest = rise_ends (suc e.0) high es r.1 in omega (arith, rest, r.0)
+
 module _ {V X : Type 0} (h : ℕ → V → List X) where
   abbrev pub shown : Option V → ℕ → List X
   shown None n = []
@@ -39,16 +44,12 @@ module _ {V X : Type 0} (h : ℕ → V → List X) where
   abbrev pub each : List (ℕ × V) → List X
   each es = flat_map (λ e. h e.0 e.1) es
 
-  ends : (low high : ℕ) (es : List (ℕ × V)) → Rise low high es → low ≤ suc high
-  ends low high [] r = r
-  ends low high (e ∷ es) r = let rest = ends (suc e.0) high es r.1 in omega (arith, rest, r.0)
-
   either : (low n : ℕ) → low ≤ n → (n ≡ low) ⊎ (suc low ≤ n)
   either low n le = grind (arith, le)
 
   by_number : (k low high : ℕ) (es : List (ℕ × V)) → suc high ≡ low + k → Rise low high es → flat_map (under es) (count_from low k) ≡ each es
   by_number k low high [] q r = none k low (under []) (λ n le. refl)
-  by_number zero low high (e ∷ es) q r = let rest = ends (suc e.0) high es r.1 in absurd (omega (arith, rest, r.0, q))
+  by_number zero low high (e ∷ es) q r = let rest = rise_ends (suc e.0) high es r.1 in absurd (omega (arith, rest, r.0, q))
   by_number (suc k) low high (e ∷ es) q r =
       by (either low e.0 r.0) (λ rise. by_number k (suc low) high es (omega (arith, q)) rise) (λ rise. by_number k (suc low) high (e ∷ es) (omega (arith, q)) rise) where
         Goal : List (ℕ × V) → Type 0

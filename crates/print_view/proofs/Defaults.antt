@@ -42,6 +42,13 @@ is_same true b e = absurd (cc e)
 is_same false true e = refl
 is_same false false e = absurd (cc e)
 
+-- a field that is no map and no list does not repeat
+pub single_field : (pool : PoolType) (f : FieldType) → holds_map pool f ≡ false → holds_list pool f ≡ false → is_repeated f.cardinality ≡ false
+single_field pool f is list = by (is_repeated f.cardinality) (sym (ap (λ b. is_repeated f.cardinality && not b) is) ∙ list) where
+  by : (c : Bool) → c && true ≡ false → c ≡ false
+  by true e = absurd (cc e)
+  by false e = refl
+
 module _ (p skip as_declared expand : Bool) (pool : PoolType) (fields_of : HaveEntryFields pool) (values : HaveValues pool) (decoded : Name → Text → Option Message) (inner : Inner) (payloads : ℕ) where
   abbrev give : FieldType → Value → Given
   give f v = given p skip as_declared expand pool fields_of values decoded inner payloads (values_of pool f) v
@@ -69,16 +76,10 @@ module _ (p skip as_declared expand : Bool) (pool : PoolType) (fields_of : HaveE
       ap (λ b. default_given (name_in pool (values_of pool f).kind) (part_of pool (values_of pool f)) (labelled b (is_repeated f.cardinality) f)) is
       ∙ ap (λ c. default_given (name_in pool (values_of pool f).kind) (part_of pool (values_of pool f)) (labelled false c f)) (list_repeats pool f list)
 
-  single_field : (f : FieldType) → holds_map pool f ≡ false → holds_list pool f ≡ false → is_repeated f.cardinality ≡ false
-  single_field f is list = by (is_repeated f.cardinality) (sym (ap (λ b. is_repeated f.cardinality && not b) is) ∙ list) where
-    by : (c : Bool) → c && true ≡ false → c ≡ false
-    by true e = absurd (cc e)
-    by false e = refl
-
   one_stands : (f : FieldType) → holds_map pool f ≡ false → holds_list pool f ≡ false → standing f ≡ tree.one_scalar (printed_single (name_in pool f.kind) (default_of pool f))
   one_stands f is list =
       ap (λ b. default_given (name_in pool (cond b (entry_part pool f 2) f).kind) (part_of pool (cond b (entry_part pool f 2) f)) (labelled b (is_repeated f.cardinality) f)) is
-      ∙ ap (λ c. default_given (name_in pool f.kind) (part_of pool f) (labelled false c f)) (single_field f is list)
+      ∙ ap (λ c. default_given (name_in pool f.kind) (part_of pool f) (labelled false c f)) (single_field pool f is list)
 
   -- what is given to a field of one value
   one_given : (f : FieldType) (v : Value) (s : Single) → holds_map pool f ≡ false → content_view v ≡ model.single s → give f v ≡ tree.one_scalar (printed_single (name_in pool f.kind) s)
@@ -109,7 +110,7 @@ module _ (p skip as_declared expand : Bool) (pool : PoolType) (fields_of : HaveE
     by false map false list = within (sort_of f.kind) where
       within : Sort f.kind → (give f v ≡ standing f) × FitsOne (Shaped levels) pool f v
       within (floating e) = absurd (true≢false (sym e ∙ whole))
-      within (message_type type) = absurd (no_message type (single_field f map list))
+      within (message_type type) = absurd (no_message type (single_field pool f map list))
       within (plain type) =
           let d = some_default pool f type in
           let here = (is.2 list map).0 type ∙ d.1 in (

@@ -10,7 +10,6 @@ use Rattle.reflect_tables.specs.Types.{PoolType, FieldType, ExtensionType, no_fi
 use Rattle.reflect_wire.specs.Records.{Payload, varint}
 use Rattle.reflect_pool.specs.Shapes.{is_repeated, holds_list, holds_map}
 use Rattle.reflect_entries.specs.Entries.{value_at}
-use Rattle.reflect_scalar.specs.FieldTypes.{extension_type}
 use Rattle.reflect_contents.specs.Walked.{Holding, if_set, set_field, set_extension}
 use Rattle.reflect_message.proofs.Known.{numbered as numbered_at}
 use Rattle.reflect_message.specs.Bytes as forms
@@ -39,11 +38,9 @@ use Rattle.message_view.specs.Types.{field_of, field_at, either_field, oneof_at,
 use Rattle.message_view.specs.Types as described
 use Rattle.message_view.specs.Views as views
 use Rattle.message_view.specs.Views.{held_either, content_view, contents_view, view, view_of}
-use Rattle.message_view.proofs.Accepting.{known_whole, extension_known_whole}
 use Rattle.message_view.proofs.Entries.{Sort, plain, floating, message_type, sort_of}
-use Rattle.message_view.proofs.Fields.{known, known_extension_is, none_owned}
 use Rattle.message_view.proofs.Forms.{single_form_seen, message_form_seen}
-use Rattle.message_view.proofs.Ordering.{found_each, rises}
+use Rattle.message_view.proofs.Ordering.{rises}
 use Rattle.message_view.proofs.Seen.{single_seen, message_seen, value_at-view, view_opened}
 use Rattle.message_view.proofs.Written.{default_same}
 use Rattle.message_view.specs.Shaped.{FitsAs, FitsOne, IsShaped, Shaped}
@@ -54,6 +51,8 @@ use Rattle.text_view.proofs.Numbered.{listed, numbered_once}
 use Rattle.message_view.proofs.Sound.{found_at as placed}
 use Rattle.text_view.proofs.Set.{list_repeats, list_set, map_repeats, map_set}
 use Rattle.print_view.specs.Forms.{form_of, HaveMessagePresence}
+use Rattle.print_view.proofs.Chosen.{Found, all_set, field_fits, found_fields, is_known}
+use Rattle.print_view.proofs.Extending.{all_extensions, extension_fits, found_extensions, no_field_too}
 use Rattle.print_view.proofs.Sorting.{all_at, of_number, all_sorted, sorted_is}
 use Rattle.print_view.proofs.Defaults.{standing, lacks_same, default_stands, unset_stands}
 use Rattle.print_view.proofs.Parts.{HaveValues}
@@ -112,7 +111,7 @@ module _ (pool : PoolType) (i : ℕ) (apart : AreApart pool) where
 
 -- ---- a message
 
-passes : {X : Type 0} (test : X → Bool) (xs : List X) (x : X) → find test xs ≡ Some x → test x ≡ true
+pub passes : {X : Type 0} (test : X → Bool) (xs : List X) (x : X) → find test xs ≡ Some x → test x ≡ true
 passes test [] x e = absurd (cc e)
 passes test (y ∷ ys) x e = by (test y) refl (passes test ys x) where
   by : (b : Bool) → test y ≡ b → (find test ys ≡ Some x → test x ≡ true) → test x ≡ true
@@ -152,24 +151,13 @@ module _ (p skip as_declared expand : Bool) (m : DynamicMessage) (present : skip
 
   field_suits : (n : ℕ) (v : Value) (f : FieldType) → value_at (fields_of m) n ≡ Some v → known_field pool i n ≡ Some f → Suits f v
   field_suits n v f at is =
-      let g = known m.descriptor n f is in
-      let whole = known_whole m.descriptor n f is in
-      let fit = subst (λ t. FitsAs (Shaped levels) pool t (holds_map pool t) (holds_list pool t) v) g.2 (shaped.fields g.0 g.1 v (ap (λ (t : FieldType). value_at (fields_of m) t.number) g.2 ∙ ap (value_at (fields_of m)) g.3 ∙ at)) in
-      (whole, fit, set_same pool (Shaped levels) f v whole (lists.unset i n f (inl is)) fit)
+      let fit = field_fits m levels shaped n v f at is in
+      (fit.0, fit.1, set_same pool (Shaped levels) f v fit.0 (lists.unset i n f (inl is)) fit.1)
 
   extension_suits : (n : ℕ) (v : Value) (f : FieldType) → value_at (extensions_of m) n ≡ Some v → known_field pool i n ≡ None → known_extension pool i n ≡ Some f → Suits f v
   extension_suits n v f at none is =
-      let x = known_extension_is m.descriptor n f is in
-      let number : (extension_type x.0).number ≡ n = ap (λ (t : FieldType). t.number) x.2 ∙ x.3 in
-      let whole = extension_known_whole m.descriptor n f is in
-      let fit = subst (λ t. FitsAs (Shaped levels) pool t (holds_map pool t) (holds_list pool t) v) x.2 (shaped.extensions x.0 x.1 (ap (known_field pool i) number ∙ none) v (ap (value_at (extensions_of m)) number ∙ at)) in
-      (whole, fit, set_same pool (Shaped levels) f v whole (lists.unset i n f (inr is)) fit)
-
-  -- no extension stands beside a field
-  no_field_too : (n : ℕ) (v : Value) (f : FieldType) → value_at (extensions_of m) n ≡ Some v → known_field pool i n ≡ Some f → ⊥
-  no_field_too n v f at is =
-      let g = known m.descriptor n f is in
-      cc (sym (ap (λ (t : FieldType). value_at (extensions_of m) t.number) g.2 ∙ ap (value_at (extensions_of m)) g.3 ∙ at) ∙ shaped.apart g.0 g.1)
+      let fit = extension_fits m levels shaped n v f at none is in
+      (fit.0, fit.1, set_same pool (Shaped levels) f v fit.0 (lists.unset i n f (inr is)) fit.1)
 
   -- ---- fields
 
@@ -183,18 +171,6 @@ module _ (p skip as_declared expand : Bool) (m : DynamicMessage) (present : skip
   abbrev entries : List (ℕ × Value) → List Entry
   entries es = map (set_entry m) (filter_map (set_field pool i) es)
 
-  abbrev Found : List (ℕ × Value) → List (ℕ × Value) → Type 0
-  Found all es = AllByRecursion (λ (e : ℕ × Value). value_at all e.0 ≡ Some e.1) es
-
-  -- a field that is there is known
-  is_known : (n : ℕ) (v : Value) (f : FieldType) → value_at (fields_of m) n ≡ Some v → numbered_field pool i n ≡ Some f → known_field pool i n ≡ Some f
-  is_known n v f at is = ap (option_and_then (if_held pool)) is ∙ by (holds_floats pool f) refl where
-    by : (b : Bool) → holds_floats pool f ≡ b → cond b None (Some f) ≡ Some f
-    by false e = refl
-    by true e =
-        let none : known_field pool i n ≡ None = ap (option_and_then (if_held pool)) is ∙ ap (λ b. cond b None (Some f)) e in
-        absurd (cc (sym at ∙ shaped.unowned n (none_owned m.descriptor n none)))
-
   field_entry : (n : ℕ) (v : Value) (rest : List Holding) → value_at (fields_of m) n ≡ Some v
       → map pair (map (set_entry m) (cons_option (set_field pool i (n, v)) rest)) ≡ first n v ++ map pair (map (set_entry m) rest)
   field_entry n v rest at = by (numbered_field pool i n) refl where
@@ -206,7 +182,7 @@ module _ (p skip as_declared expand : Bool) (m : DynamicMessage) (present : skip
         ap (λ o. put (option_and_then (if_set pool v) o)) is
         ∙ sym (ap (λ o. of_field (option_and_then (if_held pool) o) v ++ map pair (map (set_entry m) rest)) is)
     by (Some f) is =
-        let there = is_known n v f at is in
+        let there = is_known m levels shaped n v f at is in
         let suits = field_suits n v f at there in
         ap (λ o. put (option_and_then (if_set pool v) o)) is
         ∙ ap (λ b. put (cond b (Some (f, v)) None)) suits.2
@@ -219,19 +195,6 @@ module _ (p skip as_declared expand : Bool) (m : DynamicMessage) (present : skip
   fields_said : (es : List (ℕ × Value)) → Found (fields_of m) es → map pair (entries es) ≡ each first es
   fields_said [] all = refl
   fields_said (e ∷ es) all = field_entry e.0 e.1 (filter_map (set_field pool i) es) all.0 ∙ ap (λ l. first e.0 e.1 ++ l) (fields_said es all.1)
-
-  fields_fit : (es : List (ℕ × Value)) → Found (fields_of m) es → AllByRecursion (fits levels) (entries es)
-  fields_fit [] all = tt
-  fields_fit (e ∷ es) all = by (numbered_field pool i e.0) refl (fields_fit es all.1) where
-    put : Option Holding → Type 0
-    put o = AllByRecursion (fits levels) (map (set_entry m) (cons_option o (filter_map (set_field pool i) es)))
-
-    by : (o : Option FieldType) → numbered_field pool i e.0 ≡ o → AllByRecursion (fits levels) (entries es) → put (set_field pool i e)
-    by None is rest = subst (λ o. put (option_and_then (if_set pool e.1) o)) (sym is) rest
-    by (Some f) is rest = subst (λ o. put (option_and_then (if_set pool e.1) o)) (sym is) (within (forms.is_set pool f (forms.form_of e.1))) where
-      within : (b : Bool) → put (cond b (Some (f, e.1)) None)
-      within false = rest
-      within true = let suits = field_suits e.0 e.1 f all.0 (is_known e.0 e.1 f all.0 is) in ((refl, suits.0, suits.1), rest)
 
   -- ---- extensions
 
@@ -259,7 +222,7 @@ module _ (p skip as_declared expand : Bool) (m : DynamicMessage) (present : skip
     put o = map pair (filter_map known_one (cons_option o rest))
 
     by : (o : Option FieldType) → known_field pool i n ≡ o → (x : Option ExtensionType) → find (extends n) pool.extensions ≡ x → put (set_extension pool i (n, v)) ≡ second n v ++ map pair (filter_map known_one rest)
-    by (Some f) there x is = absurd (no_field_too n v f at there)
+    by (Some f) there x is = absurd (no_field_too m levels shaped n v f at there)
     by None none None is =
         ap (λ o. put (option_and_then (if_set pool v) (option_map (λ (x : ExtensionType). x.field) o))) is
         ∙ sym (ap (λ o. of_extension o (known_extension pool i n) v ++ map pair (filter_map known_one rest)) none
@@ -302,27 +265,6 @@ module _ (p skip as_declared expand : Bool) (m : DynamicMessage) (present : skip
   extensions_said : (es : List (ℕ × Value)) → Found (extensions_of m) es → map pair (others es) ≡ each second es
   extensions_said [] all = refl
   extensions_said (e ∷ es) all = extension_entry e.0 e.1 (filter_map (set_extension pool i) es) all.0 ∙ ap (λ l. second e.0 e.1 ++ l) (extensions_said es all.1)
-
-  extensions_fit : (es : List (ℕ × Value)) → Found (extensions_of m) es → AllByRecursion (fits levels) (others es)
-  extensions_fit [] all = tt
-  extensions_fit (e ∷ es) all = by (known_field pool i e.0) refl (find (extends e.0) pool.extensions) refl (extensions_fit es all.1) where
-    put : Option Holding → Type 0
-    put o = AllByRecursion (fits levels) (filter_map known_one (cons_option o (filter_map (set_extension pool i) es)))
-
-    by : (o : Option FieldType) → known_field pool i e.0 ≡ o → (x : Option ExtensionType) → find (extends e.0) pool.extensions ≡ x → AllByRecursion (fits levels) (others es) → put (set_extension pool i e)
-    by (Some f) there x is rest = absurd (no_field_too e.0 e.1 f all.0 there)
-    by None none None is rest = subst (λ o. put (option_and_then (if_set pool e.1) (option_map (λ (x : ExtensionType). x.field) o))) (sym is) rest
-    by None none (Some y) is rest = subst (λ o. put (option_and_then (if_set pool e.1) (option_map (λ (x : ExtensionType). x.field) o))) (sym is) (within (forms.is_set pool y.field (forms.form_of e.1))) where
-      number : y.field.number ≡ e.0
-      number = let two = and_parts (y.extendee == i) (y.field.number == e.0) (passes (extends e.0) pool.extensions y is) in grind (arith, two.1)
-
-      behind : (o : Option FieldType) → known_extension pool i e.0 ≡ o → AllByRecursion (fits levels) (cons_option (option_map (λ f. extension pool f e.1) o) (others es))
-      behind None there = rest
-      behind (Some f) there = let suits = extension_suits e.0 e.1 f all.0 none there in ((refl, suits.0, suits.1), rest)
-
-      within : (b : Bool) → put (cond b (Some (y.field, e.1)) None)
-      within false = rest
-      within true = subst (λ n. AllByRecursion (fits levels) (cons_option (option_map (λ f. extension pool f e.1) (known_extension pool i n)) (others es))) (sym number) (behind (known_extension pool i e.0) refl)
 
   -- ---- by numbers
 
@@ -431,12 +373,6 @@ module _ (p skip as_declared expand : Bool) (m : DynamicMessage) (present : skip
 
   abbrev placed_at : ℕ → List Pair
   placed_at k = flat_map (λ n. printed_held own schema inner (names_of pool k) n (field_at pool k n) (view m n)) (printing_order own (names_of pool k) (λ n. field_at pool k n))
-
-  found_fields : Found (fields_of m) (fields_of m)
-  found_fields = found_each 1 (2 ^ 29 - 1) (fields_of m) (rises (fields_of m) shaped.ordered.fields)
-
-  found_extensions : Found (extensions_of m) (extensions_of m)
-  found_extensions = found_each 1 (2 ^ 29 - 1) (extensions_of m) (rises (extensions_of m) shaped.ordered.extensions)
 
   -- ---- as they are declared
 
@@ -624,8 +560,8 @@ module _ (p skip as_declared expand : Bool) (m : DynamicMessage) (present : skip
   arranged false true is ds are =
       subst (Arranged false) (sym are) (
         filtered declared printed_at field_numbers ∙ same_numbers (λ n. cond (declared n) (printed_at n) []) (under first (fields_of m)) (λ n le. first_at n ∙ set_at is n (value_at (fields_of m) n))
-            ∙ all_numbers first (fields_of m) (rises (fields_of m) shaped.ordered.fields) ∙ sym (fields_said (fields_of m) found_fields),
-        fields_fit (fields_of m) found_fields,
+            ∙ all_numbers first (fields_of m) (rises (fields_of m) shaped.ordered.fields) ∙ sym (fields_said (fields_of m) (found_fields m levels shaped)),
+        all_set m levels shaped (fits levels) (λ f v there at. let suits = field_suits f.number v f at there in (refl, suits.0, suits.1)),
       )
   arranged false false is ds (found, printed, sorted) =
       let done = declared_told (λ q. true) (type_at pool i).fields numbered found printed in
@@ -648,11 +584,11 @@ module _ (p skip as_declared expand : Bool) (m : DynamicMessage) (present : skip
   all_printed ds are =
       let all = arranged as_declared skip refl ds are in (
         all.1,
-        extensions_fit (extensions_of m) found_extensions,
+        all_extensions m levels shaped (fits levels) (λ n f v none there at. let suits = extension_suits n v f at none there in (refl, suits.0, suits.1)),
         ap placed_at (placed pool.messages i m.descriptor.in_range (λ k less e. names i k m.descriptor.in_range less e))
             ∙ flat_map-append printed_at (cond as_declared (numbers (type_at pool i).fields) (filter declared field_numbers)) (filter (λ n. not (declared n)) field_numbers)
             ∙ ap (λ l. l ++ flat_map printed_at (filter (λ n. not (declared n)) field_numbers)) all.0
             ∙ ap (λ l. map pair ds ++ l)
             (filtered (λ n. not (declared n)) printed_at field_numbers ∙ same_numbers (λ n. cond (not (declared n)) (printed_at n) []) (under second (extensions_of m)) (λ n le. second_at n)
-            ∙ all_numbers second (extensions_of m) (rises (extensions_of m) shaped.ordered.extensions) ∙ sym (extensions_said (extensions_of m) found_extensions)),
+            ∙ all_numbers second (extensions_of m) (rises (extensions_of m) shaped.ordered.extensions) ∙ sym (extensions_said (extensions_of m) (found_extensions m levels shaped))),
       )

@@ -1,6 +1,9 @@
 pub mod Parts
 mod Counting
 mod Sorting
+mod Contents
+mod Chosen
+mod Extending
 mod Defaults
 mod Pieces
 mod Singles
@@ -9,7 +12,12 @@ mod Entries
 mod AnyFields
 mod Anys
 mod Rounds
-mod Unset
 mod OneView
 pub mod Printed
 mod Back
+mod Ascending
+mod Inside
+mod AllKnown
+mod KnownEntries
+mod Untold
+mod Presence

@@ -8,17 +8,20 @@ use Rattle.text_lines.specs.declared.options.FormatOptions.{FormatOptions}
 use Rattle.reflect_print.specs.MessageTexts.{IsMessageText}
 use Rattle.protobuf_model.specs.Types.{Name}
 use Rattle.protobuf_model.specs.Values.{Message}
+use Rattle.text_model.specs.Expansions.{HasOneForm}
+use Rattle.text_model.specs.Plain.{IsPlain}
 use Rattle.text_model.specs.Printed.{printed}
 use Rattle.text_model.specs.Rendered.{compact, text_of}
 use Rattle.text_model.specs.Schemas.{Schema}
 use Rattle.message_view.specs.Sound.{IsSound}
-use Rattle.message_view.specs.Types.{name_at}
+use Rattle.message_view.specs.Types.{name_at, types_of}
 use Rattle.message_view.specs.Views.{view}
 use Rattle.message_view.proofs.Recoded.{decoded_shaped}
 use Rattle.text_view.specs.Schemas.{schema_of}
 use Rattle.print_view.specs.Forms.{compact_form, form_of, own_form, HaveMessagePresence}
 use Rattle.print_view.proofs.Pieces.{text_said}
 use Rattle.print_view.proofs.Rounds.{IsExpandable, whole_said}
+use Rattle.print_view.proofs.Untold.{told_alike, untold}
 use Rattle.print_view.proofs.Values.{own_options}
 
 -- what a message of a type is printed as under options, in the model's words
@@ -37,20 +40,19 @@ own_printed p skip as_declared expand d told sound bytes m type spelled decoded 
     ∙ ap (text_of (form_of options)) (sym said.1)
     ∙ ap (λ (d : MessageDescriptor). tree_text options (schema_of pool decoded) (name_at pool d.index) (view m)) type
 
--- options that tell no unknown records are these
-own_as : (options : FormatOptions) → options.skip_unknown_fields ≡ true → options ≡ own_options options.pretty options.skip_default_fields options.in_index_order options.expand_any
-own_as options declared = ap (λ b. record options { skip_unknown_fields = b }) declared
-
-pub fields_printed : (options : FormatOptions) → options.skip_unknown_fields ≡ true → (decoded : Name → Text → Option Message) (d : MessageDescriptor) → IsSound d.pool.now → (options.skip_default_fields ≡ false → HaveMessagePresence d.pool.now)
+pub fields_printed : (options : FormatOptions) (decoded : Name → Text → Option Message) (d : MessageDescriptor) → IsSound d.pool.now → (options.skip_default_fields ≡ false → HaveMessagePresence d.pool.now)
     → (options.expand_any ≡ true → IsExpandable d.pool.now decoded) → (bytes : List ℕ) (m : DynamicMessage) → m.descriptor ≡ d → IsSpelled d bytes m
+    → (options.skip_unknown_fields ≡ false → IsPlain (types_of d.pool.now) (name_at d.pool.now d.index) (view m) × (options.expand_any ≡ true → HasOneForm 100 (schema_of d.pool.now decoded) (name_at d.pool.now d.index) (view m)))
     → (z : Text) → IsMessageText options m z → z ≡ tree_text options (schema_of d.pool.now decoded) (name_at d.pool.now d.index) (view m)
-fields_printed options declared decoded d sound told expandable bytes m type spelled z text =
-    let same = own_as options declared in
-    own_printed options.pretty options.skip_default_fields options.in_index_order options.expand_any d told sound bytes m type spelled decoded expandable z (subst (λ o. IsMessageText o m z) same text)
-    ∙ ap (λ o. tree_text o (schema_of d.pool.now decoded) (name_at d.pool.now d.index) (view m)) (sym same)
+fields_printed options decoded d sound told expandable bytes m type spelled plain z text =
+    own_printed options.pretty options.skip_default_fields options.in_index_order options.expand_any d told sound bytes m type spelled decoded expandable z (by options.skip_unknown_fields refl) where
+      -- the text in which no unknown records are told
+      by : (b : Bool) → options.skip_unknown_fields ≡ b → IsMessageText (untold options) m z
+      by true is = subst (λ b. IsMessageText (record options { skip_unknown_fields = b }) m z) is text
+      by false is = let its = plain is in told_alike options decoded d sound told expandable bytes m type spelled its.0 its.1 z text
 
 -- the compact form
 pub decoded_printed : (d : MessageDescriptor) → IsSound d.pool.now → (bytes : List ℕ) (m : DynamicMessage) → m.descriptor ≡ d → IsSpelled d bytes m
     → (decoded : Name → Text → Option Message) (z : Text) → IsMessageText compact_form m z → z ≡ compact (printed own_form (schema_of d.pool.now decoded) (name_at d.pool.now d.index) (view m))
 decoded_printed d sound bytes m type spelled decoded =
-    fields_printed compact_form refl decoded d sound (λ e. absurd (true≢false e)) (λ e. absurd (true≢false (sym e))) bytes m type spelled
+    fields_printed compact_form decoded d sound (λ e. absurd (true≢false e)) (λ e. absurd (true≢false (sym e))) bytes m type spelled (λ e. absurd (true≢false e))

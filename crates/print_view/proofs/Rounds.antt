@@ -22,7 +22,7 @@ use Rattle.message_view.specs.Views.{view}
 use Rattle.text_view.specs.Schemas.{schema_of}
 use Rattle.print_view.specs.Expansions.{DecodesIn, HasUsualAny}
 use Rattle.print_view.specs.Forms.{form_of, HaveMessagePresence}
-use Rattle.print_view.proofs.Anys.{is_expanded, not_expanded}
+use Rattle.print_view.proofs.Anys.{expanded_in, held_at, not_expanded}
 use Rattle.print_view.proofs.Entries.{all_printed}
 use Rattle.print_view.proofs.Parts.{HaveValues, have_values}
 use Rattle.print_view.proofs.Pieces.{value_shown}
@@ -74,7 +74,7 @@ module _ (p skip as_declared expand : Bool) (pool : PoolType) (sound : IsSound p
   none_at : (inner : Inner) (levels : ℕ) (m : DynamicMessage) → m.descriptor.pool.now ≡ pool → Shaped (suc levels) m → expand ≡ true → Expands m None → in_any own w inner (name_at pool m.descriptor.index) (view m) ≡ None
   none_at inner levels m there shaped e none =
       subst (λ q. IsSound q → HasUsualAny q → DecodesIn q decoded → in_any own (schema_of q decoded) inner (name_at q m.descriptor.index) (view m) ≡ None) there
-      (λ s u d. not_expanded own decoded inner m s u d levels shaped none) sound (expandable e).1 (expandable e).0
+      (λ s u d. not_expanded decoded m s u d levels shaped own inner none) sound (expandable e).1 (expandable e).0
 
   unexpanded_at : (x : ℕ) → Unexpanded p skip as_declared expand pool sound.entries values decoded (inner_at x) 100 x
   unexpanded_at zero levels m there shaped either = no_expansion own w (inner_at zero) (name_at pool m.descriptor.index) (view m) (λ fs e. cc e.inside)
@@ -89,10 +89,8 @@ module _ (p skip as_declared expand : Bool) (pool : PoolType) (sound : IsSound p
       → (u : Text × Text) × (u.0 ++ 47 ∷ u.1 ≡ url) × (body.descriptor.pool.now ≡ pool) × Shaped 101 body
       × (in_any own w inner (name_at pool m.descriptor.index) (view m) ≡ option_map (expanded_as u) (inner (name_at pool body.descriptor.index) (view body)))
   some_at inner levels m there shaped e url body some =
-      subst (λ q. IsSound q → HasUsualAny q → DecodesIn q decoded
-      → (u : Text × Text) × (u.0 ++ 47 ∷ u.1 ≡ url) × (body.descriptor.pool.now ≡ q) × Shaped 101 body
-      × (in_any own (schema_of q decoded) inner (name_at q m.descriptor.index) (view m) ≡ option_map (expanded_as u) (inner (name_at q body.descriptor.index) (view body)))) there
-      (λ s u d. is_expanded own decoded inner m s u d levels shaped e some) sound (expandable e).1 (expandable e).0
+      let h = held_at pool decoded levels m there shaped sound (expandable e) url body some in
+      (h.0, h.1, h.2, h.3, expanded_in own w inner (name_at pool m.descriptor.index) (view m) h.0 (name_at pool body.descriptor.index) (view body) e h.4)
 
   -- a message in braces, if expansions are as the model prints them
   in_braces_at : (x : ℕ) → Expansion p skip as_declared expand pool sound.entries values decoded (inner_at x) 100 x → (i : ℕ) (m : DynamicMessage) (z : Text) → IsBracedText options 100 x i m z → m.descriptor.pool.now ≡ pool → Shaped 101 m

@@ -7,7 +7,7 @@ use Rattle.std.specs.declared.cmp.Ordering.TheVariants.{Less, Equal, Greater}
 use Rattle.std.specs.Ordering.{is_lt, nat_cmp}
 use Rattle.std.proofs.lemmas.List.Sorted.{IsNonDecreasingBy-from_sort}
 use Rattle.protobuf_model.specs.Bytes.{count_from, field_numbers}
-use Rattle.print_view.proofs.Counting.{none, same}
+use Rattle.print_view.proofs.Counting.{none, same, same_numbers}
 
 below : (a b : ℕ) → is_lt (nat_cmp a b) ≡ nat_lt a b
 below a b = by (nat_lt a b) (a == b) where
@@ -32,7 +32,8 @@ filter_same : {X : Type 0} (p q : X → Bool) → ((x : X) → p x ≡ q x) → 
 filter_same p q e [] = refl
 filter_same p q e (x ∷ xs) = ap (λ b. cond b (x ∷ filter p xs) (filter p xs)) (e x) ∙ ap (λ l. cond (q x) (x ∷ l) l) (filter_same p q e xs)
 
-all_zip : {X : Type 0} (P Q R : X → Type 0) → ((x : X) → P x → Q x → R x) → (xs : List X) → AllByRecursion P xs → AllByRecursion Q xs → AllByRecursion R xs
+-- what follows from two facts, of each element
+pub all_zip : {X : Type 0} (P Q R : X → Type 0) → ((x : X) → P x → Q x → R x) → (xs : List X) → AllByRecursion P xs → AllByRecursion Q xs → AllByRecursion R xs
 all_zip P Q R f [] ps qs = tt
 all_zip P Q R f (x ∷ xs) ps qs = (f x ps.0 qs.0, all_zip P Q R f xs ps.1 qs.1)
 
@@ -60,7 +61,7 @@ module _ {X : Type 0} (key : X → ℕ) where
   abbrev pub Within : ℕ → ℕ → List X → Type 0
   Within low high xs = AllByRecursion (λ x. (low ≤ key x) × (key x ≤ high)) xs
 
-  abbrev Rises : List X → Type 0
+  abbrev pub Rises : List X → Type 0
   Rises [] = Unit {0}
   Rises (x ∷ xs) = AllByRecursion (λ y. key x ≤ key y) xs × Rises xs
 
@@ -95,6 +96,11 @@ module _ {X : Type 0} (key : X → ℕ) where
         (none_of low (x ∷ xs) (lt, all_zip (λ y. key x ≤ key y) (λ y. key x ≤ key y) (λ y. suc low ≤ key y) (λ y a b. omega (arith, lt, a)) xs r.0 r.0))
         ∙ up ((lt, w.0.1), all_zip (λ y. key x ≤ key y) (λ y. (low ≤ key y) × (key y ≤ high)) (λ y. (suc low ≤ key y) × (key y ≤ high)) (λ y a b. (omega (arith, lt, a), b.1)) xs r.0 w.1)
 
+  -- by ascending numbers that fields may have they are those of each number, one number after another
+  pub in_place : (xs : List X) → Rises xs → Within 1 (2 ^ 29 - 1) xs → flat_map (λ n. of_number n xs) field_numbers ≡ xs
+  unfolding field_numbers
+  in_place xs r w = gathers (2 ^ 29 - 1) 1 (2 ^ 29 - 1) xs (omega arith) r w
+
   all_numbered : (P : X → Type 0) (xs : List X) → ((n : ℕ) → AllByRecursion P (of_number n xs)) → AllByRecursion P xs
   all_numbered P [] h = tt
   all_numbered P (x ∷ xs) h = ((first (key x == key x) (grind arith) (h (key x))).0, all_numbered P xs (λ n. rest n (key x == n) (h n))) where
@@ -116,9 +122,11 @@ module _ {X : Type 0} (key : X → ℕ) where
     pub all_sorted : (P : X → Type 0) → AllByRecursion P found → AllByRecursion P xs
     all_sorted P h = all_numbered P xs (λ n. subst (AllByRecursion P) (sym (as_found n)) (all_filtered P (λ x. key x == n) found h))
 
+    pub all_found : (P : X → Type 0) → AllByRecursion P xs → AllByRecursion P found
+    all_found P h = all_numbered P found (λ n. subst (AllByRecursion P) (as_found n) (all_filtered P (λ x. key x == n) xs h))
+
     -- so it is what there was of each number that a field may have
     pub sorted_is : Within 1 (2 ^ 29 - 1) found → flat_map (λ n. of_number n found) field_numbers ≡ xs
-    unfolding field_numbers
     sorted_is within =
-        sym (same (2 ^ 29 - 1) 1 (λ n. of_number n xs) (λ n. of_number n found) (λ n le. as_found n))
-        ∙ gathers (2 ^ 29 - 1) 1 (2 ^ 29 - 1) xs (omega arith) (rises xs (IsNonDecreasingBy-from_sort key xs sorted)) (all_sorted (λ x. (1 ≤ key x) × (key x ≤ 2 ^ 29 - 1)) within)
+        sym (same_numbers (λ n. of_number n xs) (λ n. of_number n found) (λ n le. as_found n))
+        ∙ in_place xs (rises xs (IsNonDecreasingBy-from_sort key xs sorted)) (all_sorted (λ x. (1 ≤ key x) × (key x ≤ 2 ^ 29 - 1)) within)

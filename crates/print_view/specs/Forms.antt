@@ -1,16 +1,12 @@
 -- The forms in which messages are printed, in the words of `text_model`.
-use Rattle.std.specs.Prelude.{◌≡◌, ℕ, not, true, false, None, Some}
+use Rattle.std.specs.Prelude.{◌≡◌, ℕ, not, true, false, Some}
 use Rattle.reflect_tables.specs.Types.{PoolType, FieldType}
 use Rattle.reflect_pool.specs.Shapes.{is_repeated}
 use Rattle.reflect_message.specs.Known.{known_field}
-use Rattle.reflect_message.specs.KindTypes.{IsMessageType, IsScalarType}
+use Rattle.reflect_message.specs.KindTypes.{IsMessageType}
 use Rattle.text_lines.specs.Forms.{usual_form}
 use Rattle.text_lines.specs.declared.options.FormatOptions.{FormatOptions}
-use Rattle.protobuf_model.specs.Scalars.{Suits}
 use Rattle.text_model.specs.Forms.{Form}
-use Rattle.text_model.specs.Plain.{AreBytes}
-use Rattle.message_view.specs.Singles.{scalar_of}
-use Rattle.message_view.specs.Types.{default_of}
 
 -- what the printer's options say of the model's form
 abbrev pub form_of : FormatOptions → Form
@@ -26,18 +22,6 @@ abbrev pub HaveMessagePresence : PoolType → Type 0
 HaveMessagePresence pool =
     (i n : ℕ) (f : FieldType) → known_field pool i n ≡ Some f → IsMessageType f.kind
     → is_repeated f.cardinality ≡ false → f.presence ≡ true
-
--- the field is in no oneof, and what stands for one value of it is a value of its kind
-pub record IsReadUnset (pool : PoolType) (f : FieldType) : Type 0 where
-  pub alone : f.oneof ≡ None
-  pub default : is_repeated f.cardinality ≡ false → IsScalarType f.kind
-      → Suits (scalar_of f.kind) (default_of pool f) × AreBytes (default_of pool f)
-
--- so is each field without presence
-abbrev pub HaveReadDefaults : PoolType → Type 0
-HaveReadDefaults pool =
-    (i n : ℕ) (f : FieldType) → known_field pool i n ≡ Some f → f.presence ≡ false
-    → IsReadUnset pool f
 
 -- by ascending number, on one line: in the printer's words
 abbrev pub compact_form : FormatOptions

@@ -19,40 +19,45 @@ ghost use Rattle.text_model.specs.Rendered.{text_of};
 ghost use Rattle.text_model.specs.Texts.{IsText};
 ghost use Rattle.text_model.specs.Tokens.{open_braces};
 ghost use Rattle.text_model.specs.Tree.{Fields};
+ghost use Rattle.text_model.specs.Unset.{HaveReadDefaults};
 ghost use Rattle.message_view.specs.Sound.{IsSound};
 ghost use Rattle.message_view.specs.Types.{name_at, types_of};
 ghost use Rattle.message_view.specs.Views.{view};
 ghost use Rattle.text_view.specs.Schemas.{schema_of};
 ghost use Rattle.text_view.specs.SourceNames.{HasSourceNames};
 ghost use Rattle.print_view.specs.Expansions.{DecodesIn, HasUsualAny};
-ghost use Rattle.print_view.specs.Forms.{form_of, HaveMessagePresence, HaveReadDefaults};
+ghost use Rattle.print_view.specs.Forms.{form_of, HaveMessagePresence};
 
-/// The text of a decoded message, in each form that tells no unknown records, is that of the tree
-/// which the model prints in this form: with defaults, where a field of one message has presence;
-/// with expansions, of what is decoded as the printer does, where a google.protobuf.Any has no
-/// defaults.
+/// The text of a decoded message, in each form, is that of the tree which the model prints in this
+/// form: with unknown records, of a message that holds none, nor do those in it; with defaults,
+/// where a field of one message has presence; with expansions, of what is decoded as the printer
+/// does, where a google.protobuf.Any has no defaults. Where unknown records are told and Anys are
+/// expanded, each of these also holds the one form of a message and nothing else.
 pub fn decoded_messages_are_printed_as_their_trees()
-    ensures { (options : FormatOptions) → options.skip_unknown_fields ≡ true
+    ensures { (options : FormatOptions)
         → (decoded : Name → Text → Option Message) (d : MessageDescriptor) → IsSound d.pool.now
         → (options.skip_default_fields ≡ false → HaveMessagePresence d.pool.now)
         → (options.expand_any ≡ true → DecodesIn d.pool.now decoded × HasUsualAny d.pool.now)
         → (bytes : List ℕ) (m : DynamicMessage) → m.descriptor ≡ d → IsSpelled d bytes m
+        → (options.skip_unknown_fields ≡ false
+        → IsPlain (types_of d.pool.now) (name_at d.pool.now d.index) (view m)
+        × (options.expand_any ≡ true → HasOneForm 100 (schema_of d.pool.now decoded)
+        (name_at d.pool.now d.index) (view m)))
         → (z : Text) → IsMessageText options m z
         → z ≡ text_of (form_of options) (printed (form_of options)
         (schema_of d.pool.now decoded) (name_at d.pool.now d.index) (view m)) }
 {}
 
 /// Where names are spelled as in sources, what is printed of a decoded message whose records all
-/// have fields makes, in each of these forms, and as a text of its type, messages that are written
-/// in the same bytes, if no more than 100 braces are open in it at once: with defaults, where also a
-/// field without presence has a default of its kind and no oneof; with expansions, where also each
-/// Any that is expanded holds the one form of a message and nothing else.
+/// have fields makes, in each form, and as a text of its type, messages that are written in the
+/// same bytes, if no more than 100 braces are open in it at once: with defaults, where a field
+/// without presence has a default of its kind, so that it holds no message, and no oneof; with
+/// expansions, where each Any that is expanded holds the one form of a message and nothing else.
 pub fn printed_messages_are_read_back()
-    ensures { (options : FormatOptions) → options.skip_unknown_fields ≡ true
+    ensures { (options : FormatOptions)
         → (decoded : Name → Text → Option Message) (d : MessageDescriptor)
         → IsSound d.pool.now → HasSourceNames d.pool.now
-        → (options.skip_default_fields ≡ false
-        → HaveMessagePresence d.pool.now × HaveReadDefaults d.pool.now)
+        → (options.skip_default_fields ≡ false → HaveReadDefaults (types_of d.pool.now))
         → (options.expand_any ≡ true → DecodesIn d.pool.now decoded × HasUsualAny d.pool.now)
         → (bytes : List ℕ) → AreBytes bytes
         → (m : DynamicMessage) → m.descriptor ≡ d → IsSpelled d bytes m
@@ -68,11 +73,10 @@ pub fn printed_messages_are_read_back()
 
 /// And it is not refused as a text that the type does not take.
 pub fn printed_messages_are_taken()
-    ensures { (options : FormatOptions) → options.skip_unknown_fields ≡ true
+    ensures { (options : FormatOptions)
         → (decoded : Name → Text → Option Message) (d : MessageDescriptor)
         → IsSound d.pool.now → HasSourceNames d.pool.now
-        → (options.skip_default_fields ≡ false
-        → HaveMessagePresence d.pool.now × HaveReadDefaults d.pool.now)
+        → (options.skip_default_fields ≡ false → HaveReadDefaults (types_of d.pool.now))
         → (options.expand_any ≡ true → DecodesIn d.pool.now decoded × HasUsualAny d.pool.now)
         → (bytes : List ℕ) → AreBytes bytes
         → (m : DynamicMessage) → m.descriptor ≡ d → IsSpelled d bytes m
