@@ -26,6 +26,7 @@ impl PoolCase {
     }
 }
 
+/// Taken apart here once: a function that owns a case need not prove how a pool goes.
 impl Drop for PoolCase {
     fn drop(self) {
         let PoolCase { pool: _ } = self;

@@ -66,7 +66,7 @@ expansion_back form w inner t m fs e h back =
 pub printed_back : (form : Form) (w : Schema) → HaveNames w → (form.defaults ≡ true → HaveReadDefaults w.types) → (t : Name) (m : Message) → SuitsType w.types t m → IsPlain w.types t m → (form.expands ≡ true → HasOneForm 100 w t m)
     → value w (shape_of w t) (printed form w t m) nothing ≡ Some m
 printed_back form w names told t m h b forms =
-    all_printed form w (λ t m fs. value w (shape_of w t) fs nothing ≡ Some m)
+    all_printed form w (IsPlain w.types) (λ t m h. h) (λ t m fs. value w (shape_of w t) fs nothing ≡ Some m)
     (λ inner typed back levels t m h b. fields_back form w told inner t (names.each t) (names.entries t) typed levels back m h b)
     (λ inner t m fs e one back. expansion_back form w inner t m fs e one back)
     t m h b forms

@@ -67,10 +67,10 @@ no_expansion form w inner t m none = by (in_any form w inner t m) refl where
   by None e = refl
   by (Some fs) e = absurd (none fs (expansion_of form w inner t m fs e))
 
--- a property of fields that are printed of a message, where it holds of its own fields if it does of the messages in it, and of an expansion if it does of what is held
-module _ (form : Form) (w : Schema) (Holds : Name → Message → Fields → Type 0)
-    (fields : (inner : Inner) (typed : Name → Message → Type 0) → ((u : Name) (m : Message) → typed u m → IsPlain w.types u m → Holds u m (printed_by form w inner u m))
-    → (levels : ℕ) (t : Name) (m : Message) → IsTypedBy typed levels (w.types t) m → IsPlain w.types t m → Holds t m (joined (between form.pretty) (printed_fields form w inner t m)))
+-- a property of fields that are printed of a message of some sort, as plain ones are, where it holds of its own fields if it does of the messages in it, and of an expansion if it does of what is held
+module _ (form : Form) (w : Schema) (Is : Name → Message → Type 0) (as_plain : (t : Name) (m : Message) → IsPlain w.types t m → Is t m) (Holds : Name → Message → Fields → Type 0)
+    (fields : (inner : Inner) (typed : Name → Message → Type 0) → ((u : Name) (m : Message) → typed u m → Is u m → Holds u m (printed_by form w inner u m))
+    → (levels : ℕ) (t : Name) (m : Message) → IsTypedBy typed levels (w.types t) m → Is t m → Holds t m (joined (between form.pretty) (printed_fields form w inner t m)))
     (expansion : (inner : Inner) (t : Name) (m : Message) (fs : Fields) (e : IsExpansion form w inner t m fs) → HoldsOneForm w t m e.url e.type e.held → Holds e.type e.held e.given → Holds t m fs) where
   module _ (inner : Inner) where
     -- as its fields, or expanded
@@ -85,17 +85,17 @@ module _ (form : Form) (w : Schema) (Holds : Name → Message → Fields → Typ
 
     -- by levels, where each message is such that what is printed of it as an Any has the property
     by_levels : (P : Name → Message → Type 0) → ((t : Name) (m : Message) → P t m → (fs : Fields) → IsExpansion form w inner t m fs → Holds t m fs)
-        → (levels : ℕ) (t : Name) (m : Message) → EachSuits P levels w.types t m → IsPlain w.types t m → Holds t m (printed_by form w inner t m)
+        → (levels : ℕ) (t : Name) (m : Message) → EachSuits P levels w.types t m → Is t m → Holds t m (printed_by form w inner t m)
     by_levels P any zero t m h b = either t m (fields inner (λ u m. ⊥) (λ u m h b. absurd h) zero t m h.1 b) (any t m h.0)
     by_levels P any (suc levels) t m h b = either t m (fields inner (EachSuits P levels w.types) (by_levels P any levels) (suc levels) t m h.1 b) (any t m h.0)
 
     -- and where nothing is expanded
-    unexpanded : ((t : Name) (m : Message) (fs : Fields) → IsExpansion form w inner t m fs → ⊥) → (levels : ℕ) (t : Name) (m : Message) → IsTyped levels w.types t m → IsPlain w.types t m → Holds t m (printed_by form w inner t m)
+    unexpanded : ((t : Name) (m : Message) (fs : Fields) → IsExpansion form w inner t m fs → ⊥) → (levels : ℕ) (t : Name) (m : Message) → IsTyped levels w.types t m → Is t m → Holds t m (printed_by form w inner t m)
     unexpanded none zero t m h b = either t m (fields inner (λ u m. ⊥) (λ u m h b. absurd h) zero t m h b) (λ fs e. absurd (none t m fs e))
     unexpanded none (suc levels) t m h b = either t m (fields inner (IsTyped levels w.types) (unexpanded none levels) (suc levels) t m h b) (λ fs e. absurd (none t m fs e))
 
   -- by expansions in one another
-  within : (more : ℕ) (t : Name) (m : Message) → HasOneForm more w t m → IsPlain w.types t m → Holds t m (printed_within more form w t m)
+  within : (more : ℕ) (t : Name) (m : Message) → HasOneForm more w t m → Is t m → Holds t m (printed_within more form w t m)
   within zero t m h b = unexpanded (λ u m. None) (λ t m fs e. cc e.inside) 100 t m h b
   within (suc more) t m h b =
       by_levels (λ u m. Some (printed_within more form w u m))
@@ -103,11 +103,11 @@ module _ (form : Form) (w : Schema) (Holds : Name → Message → Fields → Typ
       (λ t m one fs e.
       let its = one e.url e.type e.held e.holds in
       expansion (λ u m. Some (printed_within more form w u m)) t m fs e its.0
-      (subst (Holds e.type e.held) (ap (λ o. unwrap_or o e.given) e.inside) (within more e.type e.held its.1 its.0.plain)))
+      (subst (Holds e.type e.held) (ap (λ o. unwrap_or o e.given) e.inside) (within more e.type e.held its.1 (as_plain e.type e.held its.0.plain))))
       100 t m h b
 
   -- of what is printed
-  pub all_printed : (t : Name) (m : Message) → SuitsType w.types t m → IsPlain w.types t m → (form.expands ≡ true → HasOneForm 100 w t m) → Holds t m (printed form w t m)
+  pub all_printed : (t : Name) (m : Message) → SuitsType w.types t m → Is t m → (form.expands ≡ true → HasOneForm 100 w t m) → Holds t m (printed form w t m)
   all_printed t m h b forms = by form.expands refl where
     by : (e : Bool) → form.expands ≡ e → Holds t m (printed form w t m)
     by true e = within 100 t m (forms e) b

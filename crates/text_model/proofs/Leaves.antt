@@ -11,16 +11,40 @@ use Rattle.protox_lex.specs.Token as sources
 use Rattle.protox_lex.specs.declared.class.Class.TheVariants as class
 use Rattle.protox_lex.proofs.FloatSpelling.{run_front}
 use Rattle.text_lex.specs.Lex.{front, lexemes_from, as_text}
-use Rattle.text_lex.specs.Token.{Token, ident, str, token, token_at}
+use Rattle.text_lex.specs.Token.{Token, Lexeme, ident, str, token, token_at, fault}
 use Rattle.text_lex.proofs.Streams.{on_token}
 use Rattle.text_model.specs.Texts.{AreTokens}
 use Rattle.text_model.proofs.Escaping.{escaped_reach}
 
--- the text is cut into these tokens, wherever it begins
-pub record Lexed (z : Text) (ts : List Token) : Type 0 where
-  pub cut : (at : ℕ) → AreTokens (lexemes_from at 0 z) ts
+-- what stands behind tokens
+abbrev pub Rest : Type 1
+Rest = List Lexeme → Type 0
 
-pub lexed_nil : Lexed [] []
+-- nothing does
+abbrev pub IsEnd : Rest
+IsEnd ls = ls ≡ []
+
+-- these tokens first, wherever they stand, and then such a rest
+abbrev pub Begin : Rest → List Lexeme → List Token → Type 0
+Begin R ls [] = R ls
+Begin R [] (u ∷ us) = ⊥
+Begin R (token_at start end t ∷ ls) (u ∷ us) = (t ≡ u) × Begin R ls us
+Begin R (fault e ∷ ls) (u ∷ us) = ⊥
+
+-- the text is cut into these tokens, wherever it begins, and such a rest
+pub record Lexed (R : Rest) (z : Text) (ts : List Token) : Type 0 where
+  pub cut : (at : ℕ) → Begin R (lexemes_from at 0 z) ts
+
+-- without a rest these are all
+pub are_tokens : (ls : List Lexeme) (ts : List Token) → Begin IsEnd ls ts → AreTokens ls ts
+are_tokens [] [] h = refl
+are_tokens [] (u ∷ us) h = absurd h
+are_tokens (token_at start end t ∷ ls) [] h = cc
+are_tokens (token_at start end t ∷ ls) (u ∷ us) h = (h.0, are_tokens ls us h.1)
+are_tokens (fault e ∷ ls) [] h = cc
+are_tokens (fault e ∷ ls) (u ∷ us) h = absurd h
+
+pub lexed_nil : Lexed IsEnd [] []
 unfolding lexemes_from
 lexed_nil = record { cut = λ at. refl }
 
@@ -33,13 +57,13 @@ take_front [] z = refl
 take_front (b ∷ w) z = ap (λ r. b ∷ r) (take_front w z)
 
 -- a token before a text
-pub token_before : (b : ℕ) (y z : Text) (t : Token) (ts : List Token) → ((at : ℕ) → front at ((b ∷ y) ++ z) ≡ Ok (token t, length (b ∷ y))) → Lexed z ts → Lexed ((b ∷ y) ++ z) (t ∷ ts)
-token_before b y z t ts is rest = record {
+pub token_before : {R : Rest} (b : ℕ) (y z : Text) (t : Token) (ts : List Token) → ((at : ℕ) → front at ((b ∷ y) ++ z) ≡ Ok (token t, length (b ∷ y))) → Lexed R z ts → Lexed R ((b ∷ y) ++ z) (t ∷ ts)
+token_before {R = R} b y z t ts is rest = record {
   cut = λ at.
       let all : lexemes_from at 0 ((b ∷ y) ++ z) ≡ token_at at (at + length (b ∷ y)) t ∷ lexemes_from (at + length (b ∷ y)) 0 z =
       on_token at (length (b ∷ y)) b t (y ++ z) (is at) (omega arith) (let l = length-append (b ∷ y) z in omega arith)
       ∙ ap (λ (s : Text). token_at at (at + length (b ∷ y)) t ∷ lexemes_from (at + length (b ∷ y)) 0 s) (drop_front (b ∷ y) z) in
-      subst (λ ls. AreTokens ls (t ∷ ts)) (sym all) (refl, rest.cut (at + length (b ∷ y)));
+      subst (λ ls. Begin R ls (t ∷ ts)) (sym all) (refl, rest.cut (at + length (b ∷ y)));
 }
 
 -- nothing that would lengthen a word

@@ -14,6 +14,7 @@ pub mod Expanding
 pub mod Numbers
 mod Examples
 mod ExpandedExample
+pub mod InBytes
 pub mod Leaves
 pub mod Decimals
 pub mod Signs

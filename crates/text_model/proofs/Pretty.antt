@@ -6,37 +6,33 @@ use Rattle.text_lex.specs.Token.{Token, sign}
 use Rattle.text_lex.proofs.Streams.{on_blank}
 use Rattle.text_model.specs.Tree.{FieldName, ScalarValue, curly, angle, Separator, no_separator, comma, semicolon, Value, scalar, braced, Values, no_values, more_values, Given, one_scalar, one_message, listed, Fields, no_fields, more_fields}
 use Rattle.text_model.specs.Tokens.{name_tokens, scalar_tokens, separator_tokens, value_tokens, more_tokens, values_tokens, given_tokens, fields_tokens}
-use Rattle.text_model.specs.Texts.{AreTokens}
 use Rattle.text_model.specs.Rendered.{run, line, last_line, pretty_value, pretty_more, pretty_values, pretty_given, lines, pretty}
-use Rattle.text_model.proofs.Leaves.{Lexed, lexed_nil, ends_number}
+use Rattle.text_model.proofs.Leaves.{Rest, IsEnd, Begin, Lexed, lexed_nil, ends_number}
 use Rattle.text_model.proofs.Signs.{IsSign, bracket_sign, brace_sign, close_bracket_sign, close_brace_sign, colon_sign, comma_sign, sign_before}
-use Rattle.text_model.proofs.Written.{AreWritten, Follows, IsBetween, IsCleanScalar, IsNameShown, IsValueShown, AreValuesShown, IsGivenShown, AreShown, scalar_written, name_written, run_lexed}
+use Rattle.text_model.proofs.Written.{AreWritten, IsBetween, IsCleanScalar, IsNameShown, IsValueShown, AreValuesShown, IsGivenShown, AreShown, nothing_follows, scalar_written, name_written, run_lexed}
 
-blank_before : (b : ℕ) (z : Text) (ts : List Token) → is_in class.Blank b ≡ true → Lexed z ts → Lexed (b ∷ z) ts
-blank_before b z ts blank rest = record { cut = λ at. subst (λ ls. AreTokens ls ts) (sym (on_blank at b z blank)) (rest.cut (at + 1)) }
+blank_before : {R : Rest} (b : ℕ) (z : Text) (ts : List Token) → is_in class.Blank b ≡ true → Lexed R z ts → Lexed R (b ∷ z) ts
+blank_before {R = R} b z ts blank rest = record { cut = λ at. subst (λ ls. Begin R ls ts) (sym (on_blank at b z blank)) (rest.cut (at + 1)) }
 
-spaces : (n : ℕ) (z : Text) (ts : List Token) → Lexed z ts → Lexed (replicate n 32 ++ z) ts
+spaces : {R : Rest} (n : ℕ) (z : Text) (ts : List Token) → Lexed R z ts → Lexed R (replicate n 32 ++ z) ts
 spaces zero z ts h = h
 spaces (suc n) z ts h = blank_before 32 (replicate n 32 ++ z) ts refl (spaces n z ts h)
 
-on_line : (n : ℕ) (z : Text) (ts : List Token) → Lexed z ts → Lexed (line n ++ z) ts
+on_line : {R : Rest} (n : ℕ) (z : Text) (ts : List Token) → Lexed R z ts → Lexed R (line n ++ z) ts
 on_line n z ts h = blank_before 10 (replicate n 32 ++ z) ts refl (spaces n z ts h)
 
-nothing_follows : Follows []
-nothing_follows = record { word = refl; dot = refl }
-
-scalar_before : (s : ScalarValue) → IsCleanScalar s → (z : Text) (ts : List Token) → ends_number z ≡ true → Lexed z ts → Lexed (run (scalar_tokens s) ++ z) (scalar_tokens s ++ ts)
+scalar_before : {R : Rest} (s : ScalarValue) → IsCleanScalar s → (z : Text) (ts : List Token) → ends_number z ≡ true → Lexed R z ts → Lexed R (run (scalar_tokens s) ++ z) (scalar_tokens s ++ ts)
 scalar_before s c z ts e h = run_lexed (scalar_tokens s) (subst AreWritten (append-nil (scalar_tokens s)) (scalar_written s c [] nothing_follows tt)) z ts e h
 
-name_before : (n : FieldName) → IsNameShown n → (z : Text) (ts : List Token) → ends_number z ≡ true → Lexed z ts → Lexed (run (name_tokens n) ++ z) (name_tokens n ++ ts)
+pub name_before : {R : Rest} (n : FieldName) → IsNameShown n → (z : Text) (ts : List Token) → ends_number z ≡ true → Lexed R z ts → Lexed R (run (name_tokens n) ++ z) (name_tokens n ++ ts)
 name_before n c z ts e h = run_lexed (name_tokens n) (subst AreWritten (append-nil (name_tokens n)) (name_written n c [] nothing_follows tt)) z ts e h
 
 -- the same text and the same tokens, otherwise grouped
-same : (x y : Text) (ts us : List Token) → x ≡ y → ts ≡ us → Lexed x ts → Lexed y us
-same x y ts us e f h = subst (λ t. Lexed t us) e (subst (Lexed x) f h)
+same : {R : Rest} (x y : Text) (ts us : List Token) → x ≡ y → ts ≡ us → Lexed R x ts → Lexed R y us
+same {R = R} x y ts us e f h = subst (λ t. Lexed R t us) e (subst (Lexed R x) f h)
 
 -- a sign and a space
-spaced_before : (b : ℕ) → IsSign b → (b == 46) ≡ false → (z : Text) (ts : List Token) → Lexed z ts → Lexed (b ∷ 32 ∷ z) (sign b ∷ ts)
+spaced_before : {R : Rest} (b : ℕ) → IsSign b → (b == 46) ≡ false → (z : Text) (ts : List Token) → Lexed R z ts → Lexed R (b ∷ 32 ∷ z) (sign b ∷ ts)
 spaced_before b is other z ts h = sign_before b is other (32 ∷ z) ts (blank_before 32 z ts refl h)
 
 more_ends : (n : ℕ) (vs : Values) (z : Text) → ends_number (pretty_more n vs ++ 93 ∷ z) ≡ true
@@ -56,10 +52,10 @@ last_ends : (n : ℕ) (fs : Fields) (z : Text) → ends_number (last_line n fs +
 last_ends n no_fields z = refl
 last_ends n (more_fields m g s fs) z = refl
 
-last_before : (n : ℕ) (fs : Fields) (z : Text) (ts : List Token) → Lexed z ts → Lexed (last_line n fs ++ z) (sign 125 ∷ ts)
+last_before : {R : Rest} (n : ℕ) (fs : Fields) (z : Text) (ts : List Token) → Lexed R z ts → Lexed R (last_line n fs ++ z) (sign 125 ∷ ts)
 last_before n no_fields z ts h = sign_before 125 close_brace_sign refl z ts h
-last_before n (more_fields m g s fs) z ts h =
-    subst (λ y. Lexed y (sign 125 ∷ ts)) (sym (append_assoc (line n) (125 ∷ []) z)) (on_line n (125 ∷ z) (sign 125 ∷ ts) (sign_before 125 close_brace_sign refl z ts h))
+last_before {R = R} n (more_fields m g s fs) z ts h =
+    subst (λ y. Lexed R y (sign 125 ∷ ts)) (sym (append_assoc (line n) (125 ∷ []) z)) (on_line n (125 ∷ z) (sign 125 ∷ ts) (sign_before 125 close_brace_sign refl z ts h))
 
 no_sign : (s : Separator) (fs : Fields) → IsBetween true s fs → separator_tokens s ≡ []
 no_sign no_separator fs c = refl
@@ -73,7 +69,7 @@ three_tokens : (a b c z : List Token) → a ++ (b ++ (c ++ z)) ≡ (a ++ (b ++ c
 three_tokens a b c z = simp append_assoc
 
 mutual
-  value_lexed : (n : ℕ) (v : Value) → IsValueShown true v → (z : Text) (ts : List Token) → ends_number z ≡ true → Lexed z ts → Lexed (pretty_value n v ++ z) (value_tokens v ++ ts)
+  pub value_lexed : {R : Rest} (n : ℕ) (v : Value) → IsValueShown true v → (z : Text) (ts : List Token) → ends_number z ≡ true → Lexed R z ts → Lexed R (pretty_value n v ++ z) (value_tokens v ++ ts)
   value_lexed n (scalar s) c z ts e h = scalar_before s c z ts e h
   value_lexed n (braced angle fs) c z ts e h = absurd c
   value_lexed n (braced curly fs) c z ts e h =
@@ -81,7 +77,7 @@ mutual
       (ap (λ (t : Text). 123 ∷ t) (sym (append_assoc (lines (n + 2) fs) (last_line n fs) z))) (ap (λ us. sign 123 ∷ us) (sym (append_assoc (fields_tokens fs) (sign 125 ∷ []) ts)))
       (sign_before 123 brace_sign refl (lines (n + 2) fs ++ (last_line n fs ++ z)) (fields_tokens fs ++ sign 125 ∷ ts) (lines_lexed (n + 2) fs c (last_line n fs ++ z) (sign 125 ∷ ts) (last_ends n fs z) (last_before n fs z ts h)))
 
-  more_lexed : (n : ℕ) (vs : Values) → AreValuesShown true vs → (z : Text) (ts : List Token) → Lexed z ts → Lexed (pretty_more n vs ++ 93 ∷ z) (more_tokens vs ++ sign 93 ∷ ts)
+  more_lexed : {R : Rest} (n : ℕ) (vs : Values) → AreValuesShown true vs → (z : Text) (ts : List Token) → Lexed R z ts → Lexed R (pretty_more n vs ++ 93 ∷ z) (more_tokens vs ++ sign 93 ∷ ts)
   more_lexed n no_values c z ts h = sign_before 93 close_bracket_sign refl z ts h
   more_lexed n (more_values v vs) c z ts h =
       same (44 ∷ 32 ∷ (pretty_value n v ++ (pretty_more n vs ++ 93 ∷ z))) (44 ∷ 32 ∷ ((pretty_value n v ++ pretty_more n vs) ++ 93 ∷ z)) (sign 44 ∷ (value_tokens v ++ (more_tokens vs ++ sign 93 ∷ ts))) (sign 44 ∷ ((value_tokens v ++ more_tokens vs) ++ sign 93 ∷ ts))
@@ -89,14 +85,14 @@ mutual
       (spaced_before 44 comma_sign refl (pretty_value n v ++ (pretty_more n vs ++ 93 ∷ z)) (value_tokens v ++ (more_tokens vs ++ sign 93 ∷ ts))
       (value_lexed n v c.0 (pretty_more n vs ++ 93 ∷ z) (more_tokens vs ++ sign 93 ∷ ts) (more_ends n vs z) (more_lexed n vs c.1 z ts h)))
 
-  values_lexed : (n : ℕ) (vs : Values) → AreValuesShown true vs → (z : Text) (ts : List Token) → Lexed z ts → Lexed (pretty_values n vs ++ 93 ∷ z) (values_tokens vs ++ sign 93 ∷ ts)
+  values_lexed : {R : Rest} (n : ℕ) (vs : Values) → AreValuesShown true vs → (z : Text) (ts : List Token) → Lexed R z ts → Lexed R (pretty_values n vs ++ 93 ∷ z) (values_tokens vs ++ sign 93 ∷ ts)
   values_lexed n no_values c z ts h = sign_before 93 close_bracket_sign refl z ts h
   values_lexed n (more_values v vs) c z ts h =
       same (pretty_value n v ++ (pretty_more n vs ++ 93 ∷ z)) ((pretty_value n v ++ pretty_more n vs) ++ 93 ∷ z) (value_tokens v ++ (more_tokens vs ++ sign 93 ∷ ts)) ((value_tokens v ++ more_tokens vs) ++ sign 93 ∷ ts)
       (sym (append_assoc (pretty_value n v) (pretty_more n vs) (93 ∷ z))) (sym (append_assoc (value_tokens v) (more_tokens vs) (sign 93 ∷ ts)))
       (value_lexed n v c.0 (pretty_more n vs ++ 93 ∷ z) (more_tokens vs ++ sign 93 ∷ ts) (more_ends n vs z) (more_lexed n vs c.1 z ts h))
 
-  given_lexed : (n : ℕ) (g : Given) → IsGivenShown true g → (z : Text) (ts : List Token) → ends_number z ≡ true → Lexed z ts → Lexed (pretty_given n g ++ z) (given_tokens g ++ ts)
+  pub given_lexed : {R : Rest} (n : ℕ) (g : Given) → IsGivenShown true g → (z : Text) (ts : List Token) → ends_number z ≡ true → Lexed R z ts → Lexed R (pretty_given n g ++ z) (given_tokens g ++ ts)
   given_lexed n (one_scalar s) c z ts e h = spaced_before 58 colon_sign refl (run (scalar_tokens s) ++ z) (scalar_tokens s ++ ts) (scalar_before s c z ts e h)
   given_lexed n (one_message false angle fs) c z ts e h = absurd c
   given_lexed n (one_message true b fs) c z ts e h = absurd c
@@ -110,7 +106,7 @@ mutual
       (ap (λ (t : Text). 58 ∷ 32 ∷ 91 ∷ t) (sym (append_assoc (pretty_values n vs) (93 ∷ []) z))) (ap (λ us. sign 58 ∷ sign 91 ∷ us) (sym (append_assoc (values_tokens vs) (sign 93 ∷ []) ts)))
       (spaced_before 58 colon_sign refl (91 ∷ (pretty_values n vs ++ 93 ∷ z)) (sign 91 ∷ (values_tokens vs ++ sign 93 ∷ ts)) (sign_before 91 bracket_sign refl (pretty_values n vs ++ 93 ∷ z) (values_tokens vs ++ sign 93 ∷ ts) (values_lexed n vs c z ts h)))
 
-  lines_lexed : (n : ℕ) (fs : Fields) → AreShown true fs → (z : Text) (ts : List Token) → ends_number z ≡ true → Lexed z ts → Lexed (lines n fs ++ z) (fields_tokens fs ++ ts)
+  lines_lexed : {R : Rest} (n : ℕ) (fs : Fields) → AreShown true fs → (z : Text) (ts : List Token) → ends_number z ≡ true → Lexed R z ts → Lexed R (lines n fs ++ z) (fields_tokens fs ++ ts)
   lines_lexed n no_fields c z ts e h = h
   lines_lexed n (more_fields m g s fs) c z ts e h =
       let given = pretty_given n g ++ (lines n fs ++ z) in
@@ -123,7 +119,7 @@ mutual
       (given_lexed n g c.1 (lines n fs ++ z) (fields_tokens fs ++ ts) (lines_end n fs z e) (lines_lexed n fs c.3 z ts e h))))
 
 -- the first line has no line end before it
-pub pretty_lexed : (fs : Fields) → AreShown true fs → Lexed (pretty fs) (fields_tokens fs)
+pub pretty_lexed : (fs : Fields) → AreShown true fs → Lexed IsEnd (pretty fs) (fields_tokens fs)
 pretty_lexed no_fields c = lexed_nil
 pretty_lexed (more_fields m g s fs) c =
     let h = lines_lexed 0 fs c.3 [] [] refl lexed_nil in

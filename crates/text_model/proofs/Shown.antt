@@ -18,13 +18,14 @@ use Rattle.text_model.specs.Tokens.{fields_tokens}
 use Rattle.text_model.specs.Forms.{Form, between}
 use Rattle.text_model.specs.Schemas.{Names, Schema}
 use Rattle.text_model.specs.Printed.{Inner, joined, parts, field_name, lacks_presence, default_given, unset, natural, whole, named, printed_single, value_in, printed_content, printed_list, printed_entries, printed_held, printed_fields, printed_by, printed, printing_order}
-use Rattle.text_model.specs.Plain.{AreBytes, IsPlainContent, ArePlainContents, ArePlainEntries, IsPlainHeld, IsPlain}
+use Rattle.text_model.specs.Plain.{AreBytes, IsPlain, HasBytes, HaveBytes, EntriesHaveBytes, IsHeldInBytes, IsInBytes}
 use Rattle.text_model.specs.Expansions.{HasOneForm, HoldsOneForm}
 use Rattle.text_model.specs.Unset.{IsOfKind, HasReadDefault, HaveReadDefaults}
 use Rattle.text_model.specs.Identifiers.{is_identifier, is_full_name, AreIdentifiers, HaveIdentifiers}
 use Rattle.text_model.specs.Rendered.{compact, pretty, text_of}
 use Rattle.text_model.specs.Texts.{Spells}
-use Rattle.text_model.proofs.Leaves.{Lexed}
+use Rattle.text_model.proofs.InBytes.{plain_in_bytes}
+use Rattle.text_model.proofs.Leaves.{IsEnd, Lexed, are_tokens}
 use Rattle.text_model.proofs.Expansions.{IsExpansion, all_printed}
 use Rattle.text_model.proofs.Utf8.{utf8_small}
 use Rattle.text_model.proofs.Pretty.{pretty_lexed}
@@ -112,27 +113,27 @@ all_of p f (n ∷ ns) h = all_append (IsEntryShown p) (f n) (flat_map f ns) (h n
 
 -- ---- contents
 
-module _ (form : Form) (w : Schema) (told : form.defaults ≡ true → HaveReadDefaults w.types) (inner : Inner) (typed : Name → Message → Type 0) (shown : (u : Name) (m : Message) → typed u m → IsPlain w.types u m → AreShown form.pretty (printed_by form w inner u m)) where
-  alone_shown : (name : ℤ → Option Text) → AreSpelled name → (k : Kind) (c : Content) → IsOf typed k c → IsPlainContent w.types k c → IsGivenShown form.pretty (printed_content form w inner name k c)
+module _ (form : Form) (w : Schema) (told : form.defaults ≡ true → HaveReadDefaults w.types) (inner : Inner) (typed : Name → Message → Type 0) (shown : (u : Name) (m : Message) → typed u m → IsInBytes m → AreShown form.pretty (printed_by form w inner u m)) where
+  alone_shown : (name : ℤ → Option Text) → AreSpelled name → (k : Kind) (c : Content) → IsOf typed k c → HasBytes c → IsGivenShown form.pretty (printed_content form w inner name k c)
   alone_shown name f (scalar k) (single v) h b = single_shown name k v f b h
   alone_shown name f (nested frame u) (message m) h b = shown u m h b
   alone_shown name f k c h b = absurd h
 
-  element_shown : (name : ℤ → Option Text) → AreSpelled name → (k : Kind) (c : Content) → IsOf typed k c → IsPlainContent w.types k c → IsValueShown form.pretty (value_in (printed_content form w inner name k c))
+  element_shown : (name : ℤ → Option Text) → AreSpelled name → (k : Kind) (c : Content) → IsOf typed k c → HasBytes c → IsValueShown form.pretty (value_in (printed_content form w inner name k c))
   element_shown name f (scalar k) (single v) h b = single_shown name k v f b h
   element_shown name f (nested frame u) (message m) h b = shown u m h b
   element_shown name f k c h b = absurd h
 
-  list_shown : (name : ℤ → Option Text) → AreSpelled name → (k : Kind) (cs : Contents) → AllByRecursion (IsOf typed k) (list_of cs) → ArePlainContents w.types k cs → AreValuesShown form.pretty (printed_list form w inner name k cs)
+  list_shown : (name : ℤ → Option Text) → AreSpelled name → (k : Kind) (cs : Contents) → AllByRecursion (IsOf typed k) (list_of cs) → HaveBytes cs → AreValuesShown form.pretty (printed_list form w inner name k cs)
   list_shown name f k no_contents h b = tt
   list_shown name f k (more_contents c cs) h b = (element_shown name f k c h.0 b.0, list_shown name f k cs h.1 b.1)
 
-  entries_shown : (name : ℤ → Option Text) → AreSpelled name → (key : Key) (part : Part) (es : Entries) → AllByRecursion (IsEntryOf typed key part) (pairs_of es) → ArePlainEntries w.types part.kind es → AreValuesShown form.pretty (printed_entries form w inner name part.kind es)
+  entries_shown : (name : ℤ → Option Text) → AreSpelled name → (key : Key) (part : Part) (es : Entries) → AllByRecursion (IsEntryOf typed key part) (pairs_of es) → EntriesHaveBytes es → AreValuesShown form.pretty (printed_entries form w inner name part.kind es)
   entries_shown name f key part no_entries h b = tt
   entries_shown name f key part (more_entries v c es) h b =
       (joined_shown form.pretty ((plain (codes "key"), one_scalar (printed_single name v)) ∷ (plain (codes "value"), printed_content form w inner name part.kind c) ∷ []) ((refl, single_shown name key.kind v f b.0 h.0.0), ((refl, alone_shown name f part.kind c h.0.1 b.1), tt)), entries_shown name f key part es h.1 b.2)
 
-  field_shown : (name : ℤ → Option Text) → AreSpelled name → (part : Part) (l : Label) (c : Content) → IsFieldOf typed part l c → IsPlainContent w.types part.kind c → IsGivenShown form.pretty (printed_content form w inner name part.kind c)
+  field_shown : (name : ℤ → Option Text) → AreSpelled name → (part : Part) (l : Label) (c : Content) → IsFieldOf typed part l c → HasBytes c → IsGivenShown form.pretty (printed_content form w inner name part.kind c)
   field_shown name f part one c h b = alone_shown name f part.kind c h.0 b
   field_shown name f part (many packed) (list (more_contents c cs)) h b = list_shown name f part.kind (more_contents c cs) h b
   field_shown name f part (keyed key) (dictionary (more_entries v c es)) h b = entries_shown name f key part (more_entries v c es) h.0 b
@@ -163,12 +164,12 @@ module _ (form : Form) (w : Schema) (told : form.defaults ≡ true → HaveReadD
           subst (λ b. AllByRecursion (IsEntryShown form.pretty) (cond b (pair ∷ []) [])) (sym is)
           ((name_shown (w.names t) n f (a.fields n f e), standing_shown ((w.names t).enum_name n) (a.enums n) f.part f.label fit.1), tt)
 
-    held_shown : (levels n : ℕ) (o : Option Field) → w.types t n ≡ o → (h : Held) → IsHeldOf typed levels o h → IsPlainHeld w.types o h → AllByRecursion (IsEntryShown form.pretty) (printed_held form w inner (w.names t) n o h)
+    held_shown : (levels n : ℕ) (o : Option Field) → w.types t n ≡ o → (h : Held) → IsHeldOf typed levels o h → IsHeldInBytes h → AllByRecursion (IsEntryShown form.pretty) (printed_held form w inner (w.names t) n o h)
     held_shown levels n o e (records ps) h b = unset_shown n o e
     held_shown levels n None e (content c) h b = absurd h
     held_shown levels n (Some f) e (content c) h b = ((name_shown (w.names t) n f (a.fields n f e), field_shown ((w.names t).enum_name n) (a.enums n) f.part f.label c h b), tt)
 
-    pub fields_shown : (levels : ℕ) (m : Message) → IsTypedBy typed levels (w.types t) m → IsPlain w.types t m → AreShown form.pretty (joined (between form.pretty) (printed_fields form w inner t m))
+    pub fields_shown : (levels : ℕ) (m : Message) → IsTypedBy typed levels (w.types t) m → IsInBytes m → AreShown form.pretty (joined (between form.pretty) (printed_fields form w inner t m))
     fields_shown levels m h b =
         joined_shown form.pretty (printed_fields form w inner t m) (all_of form.pretty (λ n. printed_held form w inner (w.names t) n (w.types t n) (m n)) (printing_order form (w.names t) (w.types t))
         (λ n. held_shown levels n (w.types t n) refl (m n) (h.contents n) (b n)))
@@ -179,18 +180,25 @@ expansion_shown form w inner t m fs e its shown =
     ((full_name_shown (parts e.url.0) its.domain, full_name_shown (parts e.url.1) its.name), shown, last_is form.pretty, tt)
 
 -- fields that are printed are cut into again
-tree_lexed : (form : Form) (fs : Fields) → AreShown form.pretty fs → Lexed (text_of form fs) (fields_tokens fs)
+tree_lexed : (form : Form) (fs : Fields) → AreShown form.pretty fs → Lexed IsEnd (text_of form fs) (fields_tokens fs)
 tree_lexed form fs = by form.pretty where
-  by : (b : Bool) → AreShown b fs → Lexed (cond b (pretty fs) (compact fs)) (fields_tokens fs)
+  by : (b : Bool) → AreShown b fs → Lexed IsEnd (cond b (pretty fs) (compact fs)) (fields_tokens fs)
   by true c = pretty_lexed fs c
   by false c = shown_lexed fs c
+
+-- what is printed of a message is shown, whatever records it keeps
+pub tree_shown : (form : Form) (w : Schema) → HaveIdentifiers w → (form.defaults ≡ true → HaveReadDefaults w.types) → (t : Name) (m : Message) → SuitsType w.types t m → IsInBytes m → (form.expands ≡ true → HasOneForm 100 w t m)
+    → AreShown form.pretty (printed form w t m)
+tree_shown form w a told t m h b forms =
+    all_printed form w (λ t m. IsInBytes m) (plain_in_bytes w.types) (λ t m fs. AreShown form.pretty fs)
+    (λ inner typed shown levels t m h b. fields_shown form w told inner typed shown t (a t) levels m h b)
+    (λ inner t m fs e its shown. expansion_shown form w inner t m fs e its shown)
+    t m h b forms
 
 pub text_spelled : (form : Form) (w : Schema) → HaveIdentifiers w → (form.defaults ≡ true → HaveReadDefaults w.types) → (t : Name) (m : Message) → SuitsType w.types t m → IsPlain w.types t m → (form.expands ≡ true → HasOneForm 100 w t m)
     → Spells (text_of form (printed form w t m)) (printed form w t m)
 text_spelled form w a told t m h b forms =
     let tree = printed form w t m in
-    let shown : AreShown form.pretty tree = all_printed form w (λ t m fs. AreShown form.pretty fs)
-    (λ inner typed shown levels t m h b. fields_shown form w told inner typed shown t (a t) levels m h b)
-    (λ inner t m fs e its shown. expansion_shown form w inner t m fs e its shown)
-    t m h b forms in
-    record { lexemes = lexemes (text_of form tree); cut = all_longest 0 (text_of form tree); tokens = (tree_lexed form tree shown).cut 0 }
+    let z = text_of form tree in
+    let cut = (tree_lexed form tree (tree_shown form w a told t m h (plain_in_bytes w.types t m b) forms)).cut 0 in
+    record { lexemes = lexemes z; cut = all_longest 0 z; tokens = are_tokens (lexemes z) (fields_tokens tree) cut }

@@ -9,7 +9,7 @@ use Rattle.protox_lex.specs.declared.class.Class.TheVariants as class
 use Rattle.protox_lex.specs.declared.token.Sign.TheVariants as signs
 use Rattle.text_lex.specs.Lex.{front, as_text}
 use Rattle.text_lex.specs.Token.{Token, sign, token}
-use Rattle.text_model.proofs.Leaves.{Lexed, token_before}
+use Rattle.text_model.proofs.Leaves.{Rest, Lexed, token_before}
 
 -- a sign is cut where it stands, a dot where no digit follows it
 pub record IsSign (b : ℕ) : Type 0 where
@@ -55,5 +55,5 @@ pub close_brace_sign : IsSign 125
 unfolding front source.front
 close_brace_sign = record { front = λ at z h. refl; word = refl }
 
-pub sign_before : (b : ℕ) → IsSign b → (b == 46) ≡ false → (z : Text) (ts : List Token) → Lexed z ts → Lexed (b ∷ z) (sign b ∷ ts)
+pub sign_before : {R : Rest} (b : ℕ) → IsSign b → (b == 46) ≡ false → (z : Text) (ts : List Token) → Lexed R z ts → Lexed R (b ∷ z) (sign b ∷ ts)
 sign_before b is other z ts h = token_before b [] z (sign b) ts (λ at. is.front at z (inl other)) h

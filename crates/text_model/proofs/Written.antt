@@ -16,7 +16,7 @@ use Rattle.text_model.specs.Rendered.{run}
 use Rattle.text_model.specs.Identifiers.{is_identifier}
 use Rattle.text_model.proofs.Front.{is_sign, is_at}
 use Rattle.text_model.proofs.Reading.{grouped}
-use Rattle.text_model.proofs.Leaves.{Lexed, lexed_nil, token_before, ends_word, ends_number, word_front, string_front}
+use Rattle.text_model.proofs.Leaves.{Rest, IsEnd, Lexed, lexed_nil, token_before, ends_word, ends_number, word_front, string_front}
 use Rattle.text_model.proofs.Decimals.{letter_solid, letter_no_digit, decimal_front}
 use Rattle.text_model.proofs.Signs.{IsSign, comma_sign, minus_sign, dot_sign, slash_sign, colon_sign, bracket_sign, close_bracket_sign, brace_sign, close_brace_sign}
 
@@ -80,11 +80,11 @@ no_digit (float s ∷ ts) z h e = cc
 no_digit (str s ∷ ts) z h e = cc
 no_digit (sign b ∷ ts) z h e = cc
 
-decimal_lexed : (d : Text) (n : ℕ) (z : Text) (ts : List Token) → n < 2 ^ 64 → d ≡ decimal n → ends_number z ≡ true → Lexed z ts → Lexed (d ++ z) (int radix.Decimal d ∷ ts)
+decimal_lexed : {R : Rest} (d : Text) (n : ℕ) (z : Text) (ts : List Token) → n < 2 ^ 64 → d ≡ decimal n → ends_number z ≡ true → Lexed R z ts → Lexed R (d ++ z) (int radix.Decimal d ∷ ts)
 decimal_lexed [] n z ts small e f h = absurd (let k = (decimal_is_IsNumeral n small).0.0 in omega (arith, ap length e))
 decimal_lexed (b ∷ y) n z ts small e f h = token_before b y z (int radix.Decimal (b ∷ y)) ts (λ at. subst (λ ds. front at (ds ++ z) ≡ Ok (token (int radix.Decimal ds), length ds)) (sym e) (decimal_front at n z small f)) h
 
-string_lexed : (raw s z : Text) (ts : List Token) → AllByRecursion (λ x. x < 256) s → raw ≡ escaped s → Lexed z ts → Lexed ((34 ∷ (raw ++ 34 ∷ [])) ++ z) (str raw ∷ ts)
+string_lexed : {R : Rest} (raw s z : Text) (ts : List Token) → AllByRecursion (λ x. x < 256) s → raw ≡ escaped s → Lexed R z ts → Lexed R ((34 ∷ (raw ++ 34 ∷ [])) ++ z) (str raw ∷ ts)
 string_lexed raw s z ts small e h =
     token_before 34 (raw ++ 34 ∷ []) z (str raw) ts
     (λ at.
@@ -93,11 +93,11 @@ string_lexed raw s z ts small e h =
     h
 
 -- one token more
-more_lexed : (t x z : Text) (y : Token) (ts : List Token) → Lexed (t ++ (x ++ z)) (y ∷ ts) → Lexed ((t ++ x) ++ z) (y ∷ ts)
-more_lexed t x z y ts h = subst (λ s. Lexed s (y ∷ ts)) (sym (append_assoc t x z)) h
+more_lexed : {R : Rest} (t x z : Text) (y : Token) (ts : List Token) → Lexed R (t ++ (x ++ z)) (y ∷ ts) → Lexed R ((t ++ x) ++ z) (y ∷ ts)
+more_lexed {R = R} t x z y ts h = subst (λ s. Lexed R s (y ∷ ts)) (sym (append_assoc t x z)) h
 
 -- before a text that lengthens no word and no number
-pub run_lexed : (ts : List Token) → AreWritten ts → (z : Text) (us : List Token) → ends_number z ≡ true → Lexed z us → Lexed (run ts ++ z) (ts ++ us)
+pub run_lexed : {R : Rest} (ts : List Token) → AreWritten ts → (z : Text) (us : List Token) → ends_number z ≡ true → Lexed R z us → Lexed R (run ts ++ z) (ts ++ us)
 run_lexed [] h z us e g = g
 run_lexed (ident [] ∷ ts) h z us e g = absurd (let x : false ≡ true = h.0 in cc)
 run_lexed (ident (b ∷ y) ∷ ts) h z us e g =
@@ -120,6 +120,9 @@ run_lexed (sign b ∷ ts) h z us e g =
 pub record Follows (ts : List Token) : Type 0 where
   pub word : is_at begins_word ts ≡ false
   pub dot : is_at (is_sign 46) ts ≡ false
+
+pub nothing_follows : Follows []
+nothing_follows = record { word = refl; dot = refl }
 
 abbrev pub IsCleanScalar : ScalarValue → Type 0
 IsCleanScalar (signed minus w) = IsClean (word_token w)
@@ -262,8 +265,15 @@ mutual
       (given_written g c.1 last (between_follow s fs c.2 ts f) (between_written s fs c.2 (fields_tokens fs ++ ts) (fields_written fs c.3 ts f h))))
 
 -- fields that are printed on one line are cut into again
-pub shown_lexed : (fs : Fields) → AreShown false fs → Lexed (run (fields_tokens fs)) (fields_tokens fs)
+pub shown_lexed : (fs : Fields) → AreShown false fs → Lexed IsEnd (run (fields_tokens fs)) (fields_tokens fs)
 shown_lexed fs c =
-    let written = subst AreWritten (append-nil (fields_tokens fs)) (fields_written fs c [] (record { word = refl; dot = refl }) tt) in
-    subst (λ z. Lexed z (fields_tokens fs)) (append-nil (run (fields_tokens fs)))
-    (subst (Lexed (run (fields_tokens fs) ++ [])) (append-nil (fields_tokens fs)) (run_lexed (fields_tokens fs) written [] [] refl lexed_nil))
+    let written = subst AreWritten (append-nil (fields_tokens fs)) (fields_written fs c [] nothing_follows tt) in
+    subst (λ z. Lexed IsEnd z (fields_tokens fs)) (append-nil (run (fields_tokens fs)))
+    (subst (Lexed IsEnd (run (fields_tokens fs) ++ [])) (append-nil (fields_tokens fs)) (run_lexed (fields_tokens fs) written [] [] refl lexed_nil))
+
+-- so are their parts, before a text that lengthens no word and no number
+pub value_run : {R : Rest} (v : Value) → IsValueShown false v → (z : Text) (ts : List Token) → ends_number z ≡ true → Lexed R z ts → Lexed R (run (value_tokens v) ++ z) (value_tokens v ++ ts)
+value_run v c z ts e h = run_lexed (value_tokens v) (subst AreWritten (append-nil (value_tokens v)) (value_written v c [] nothing_follows tt)) z ts e h
+
+pub given_run : {R : Rest} (g : Given) → IsGivenShown false g → (z : Text) (ts : List Token) → ends_number z ≡ true → Lexed R z ts → Lexed R (run (given_tokens g) ++ z) (given_tokens g ++ ts)
+given_run g c z ts e h = run_lexed (given_tokens g) (subst AreWritten (append-nil (given_tokens g)) (given_written g c [] nothing_follows tt)) z ts e h
