@@ -21,3 +21,13 @@ mod AllKnown
 mod KnownEntries
 mod Untold
 mod Presence
+mod TreeTokens
+mod ToldTokens
+mod ToldNumbers
+mod ToldParts
+mod Telling
+mod ToldRounds
+mod ReadBytes
+mod MeantBytes
+mod DecodedBytes
+mod Refused

@@ -63,11 +63,11 @@ module _ (p skip as_declared expand : Bool) (pool : PoolType) (sound : IsSound p
   inner_at zero = λ t m. None
   inner_at (suc more) = λ t m. Some (printed_within more own w t m)
 
-  within_is : (x : ℕ) (t : Name) (m : Message) → printed_within x own w t m ≡ printed_by own w (inner_at x) t m
+  pub within_is : (x : ℕ) (t : Name) (m : Message) → printed_within x own w t m ≡ printed_by own w (inner_at x) t m
   within_is zero t m = refl
   within_is (suc more) t m = refl
 
-  printed_at : (x : ℕ) → Printed p skip as_declared expand pool sound.entries values decoded (inner_at x) 100
+  pub printed_at : (x : ℕ) → Printed p skip as_declared expand pool sound.entries values decoded (inner_at x) 100
   printed_at x = each_printed p skip as_declared expand decoded (inner_at x) 100 pool told sound.apart sound.numbers sound.entries values sound.lists sound.names
 
   -- the Any is none that is expanded
@@ -76,7 +76,7 @@ module _ (p skip as_declared expand : Bool) (pool : PoolType) (sound : IsSound p
       subst (λ q. IsSound q → HasUsualAny q → DecodesIn q decoded → in_any own (schema_of q decoded) inner (name_at q m.descriptor.index) (view m) ≡ None) there
       (λ s u d. not_expanded decoded m s u d levels shaped own inner none) sound (expandable e).1 (expandable e).0
 
-  unexpanded_at : (x : ℕ) → Unexpanded p skip as_declared expand pool sound.entries values decoded (inner_at x) 100 x
+  pub unexpanded_at : (x : ℕ) → Unexpanded p skip as_declared expand pool sound.entries values decoded (inner_at x) 100 x
   unexpanded_at zero levels m there shaped either = no_expansion own w (inner_at zero) (name_at pool m.descriptor.index) (view m) (λ fs e. cc e.inside)
   unexpanded_at (suc more) levels m there shaped either = by expand refl either where
     by : (e : Bool) → expand ≡ e → ((MayExpand options (suc more) → ⊥) ⊎ Expands m None) → in_any own w (inner_at (suc more)) (name_at pool m.descriptor.index) (view m) ≡ None
@@ -85,7 +85,7 @@ module _ (p skip as_declared expand : Bool) (pool : PoolType) (sound : IsSound p
     by true e (inr none) = none_at (inner_at (suc more)) levels m there shaped e none
 
   -- an Any that is
-  some_at : (inner : Inner) (levels : ℕ) (m : DynamicMessage) → m.descriptor.pool.now ≡ pool → Shaped (suc levels) m → expand ≡ true → (url : Text) (body : DynamicMessage) → Expands m (Some (url, body))
+  pub some_at : (inner : Inner) (levels : ℕ) (m : DynamicMessage) → m.descriptor.pool.now ≡ pool → Shaped (suc levels) m → expand ≡ true → (url : Text) (body : DynamicMessage) → Expands m (Some (url, body))
       → (u : Text × Text) × (u.0 ++ 47 ∷ u.1 ≡ url) × (body.descriptor.pool.now ≡ pool) × Shaped 101 body
       × (in_any own w inner (name_at pool m.descriptor.index) (view m) ≡ option_map (expanded_as u) (inner (name_at pool body.descriptor.index) (view body)))
   some_at inner levels m there shaped e url body some =

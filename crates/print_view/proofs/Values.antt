@@ -56,20 +56,26 @@ own_options p skip as_declared expand = record {
 }
 
 -- what is seen of a value is of one sort
-no_message : (v : Value) (c : Content) → content_view v ≡ c → ((m : Message) → c ≡ model.message m → ⊥) → message_in v ≡ None
+pub no_message : (v : Value) (c : Content) → content_view v ≡ c → ((m : Message) → c ≡ model.message m → ⊥) → message_in v ≡ None
 no_message v c is other = by (message_in v) refl where
   by : (o : Option DynamicMessage) → message_in v ≡ o → o ≡ None
   by None e = refl
   by (Some m) e = absurd (other (view m) (sym is ∙ message_seen v m e))
 
 -- a key is no value of an enum
-no_enum : (k : MapKey) (n : ℤ) → key_view k ≡ held.enumerated n → ⊥
+pub no_enum : (k : MapKey) (n : ℤ) → key_view k ≡ held.enumerated n → ⊥
 no_enum (keys.Bool b) n e = cc e
 no_enum (keys.I32 z) n e = cc e
 no_enum (keys.I64 z) n e = cc e
 no_enum (keys.U32 m) n e = cc e
 no_enum (keys.U64 m) n e = cc e
 no_enum (keys.String t) n e = cc e
+
+-- the key of a map's entry under its name
+pub key_said_one : (p : Bool) (i : ℕ) (k : tree.ScalarValue) (key : Text) → key ≡ run (scalar_tokens k) → codes "key" ++ (colon p ++ key) ≡ one p i (tree.plain (codes "key"), tree.one_scalar k)
+key_said_one p i k key h =
+    ap (λ l. codes "key" ++ (colon p ++ l)) h ∙ ap (λ l. codes "key" ++ l) (sym (scalar_given p i k))
+    ∙ ap (λ l. l ++ given_shown p i (tree.one_scalar k)) (sym (word_said (codes "key")))
 
 module _ (p skip as_declared expand : Bool) (pool : PoolType) (fields_of : HaveEntryFields pool) (values : HaveValues pool) (decoded : Name → Text → Option Message) (inner : Inner) (payloads : ℕ) where
   -- the options, and the form that they are
@@ -98,7 +104,7 @@ module _ (p skip as_declared expand : Bool) (pool : PoolType) (fields_of : HaveE
   of_any m = in_any own schema inner (name_at pool m.descriptor.index) (view m)
 
   -- a text is that of a value in a list, and behind a name, at an indentation
-  abbrev Said : ℕ → FieldType → Value → Text → Type 0
+  abbrev pub Said : ℕ → FieldType → Value → Text → Type 0
   Said i f v z = (z ≡ value_shown p i (value_in (given f v))) × (before_value p (message_in v) ++ z ≡ given_shown p i (given f v))
 
   said_single : (i : ℕ) (f : FieldType) (v : Value) (s : held.Single) (z : Text) → singles.single v ≡ Some s → z ≡ run (scalar_tokens (printed_single (name_in pool f.kind) (single_view s))) → Said i f v z
@@ -110,17 +116,20 @@ module _ (p skip as_declared expand : Bool) (pool : PoolType) (fields_of : HaveE
         ap (λ o. before_value p o ++ z) (no_message v (model.single (single_view s)) seen (λ m e. cc e)) ∙ ap (λ l. colon p ++ l) h ∙ sym (scalar_given p i word) ∙ sym (ap (given_shown p i) same),
       )
 
+  pub given_message : (f : FieldType) (v : Value) (m : DynamicMessage) → message_in v ≡ Some m → f.kind ≡ types.message m.descriptor.index → given f v ≡ tree.one_message false curly (tree_of m)
+  given_message f v m is kind =
+      ap (λ c. printed_content own schema inner (name_in pool f.kind) (kind_in pool f.group f.kind) c) (message_seen v m is)
+      ∙ ap (λ k. printed_content own schema inner (name_in pool f.kind) (kind_in pool f.group k) (model.message (view m))) kind
+
   said_message : (i : ℕ) (f : FieldType) (v : Value) (m : DynamicMessage) (z : Text) → message_in v ≡ Some m → f.kind ≡ types.message m.descriptor.index → z ≡ value_shown p i (tree.braced curly (tree_of m)) → Said i f v z
   said_message i f v m z is kind h =
-      let same : given f v ≡ tree.one_message false curly (tree_of m) =
-      ap (λ c. printed_content own schema inner (name_in pool f.kind) (kind_in pool f.group f.kind) c) (message_seen v m is)
-      ∙ ap (λ k. printed_content own schema inner (name_in pool f.kind) (kind_in pool f.group k) (model.message (view m))) kind in (
+      let same = given_message f v m is kind in (
         h ∙ sym (ap (λ g. value_shown p i (value_in g)) same),
         ap (λ o. before_value p o ++ z) is ∙ ap (λ l. padding p ++ l) h ∙ sym (message_given p i (tree_of m)) ∙ sym (ap (given_shown p i) same),
       )
 
   -- a list and a map behind a name
-  abbrev Behind : ℕ → FieldType → Value → Text → Type 0
+  abbrev pub Behind : ℕ → FieldType → Value → Text → Type 0
   Behind i f v z = before_value p (message_in v) ++ z ≡ given_shown p i (given f v)
 
   behind_list : (i : ℕ) (f : FieldType) (v : Value) (c : Content) (vs : Values) (z : Text) → content_view v ≡ c → ((m : Message) → c ≡ model.message m → ⊥)
@@ -153,7 +162,7 @@ module _ (p skip as_declared expand : Bool) (pool : PoolType) (fields_of : HaveE
       × (pairs_in m ≡ map pair_of ds ++ map pair_of (extension_entries m))
 
   -- the values of a map are those of its entries' type
-  map_values : (f : FieldType) → holds_map pool f ≡ true → value_kind (named pool f.kind) ≡ named pool (values_of pool f).kind
+  pub map_values : (f : FieldType) → holds_map pool f ≡ true → value_kind (named pool f.kind) ≡ named pool (values_of pool f).kind
   map_values f is = by f.kind refl where
     entry_too : (t : KindType) → is_entry pool t && (is_repeated f.cardinality && not f.group) ≡ true → is_entry pool t ≡ true
     entry_too t e = first (is_entry pool t) (is_repeated f.cardinality && not f.group) e where
@@ -174,11 +183,11 @@ module _ (p skip as_declared expand : Bool) (pool : PoolType) (fields_of : HaveE
     by (types.message i) kind = ap (λ t. value_kind (named pool t)) kind ∙ within i kind (type_at pool i).entry refl
     by t kind = absurd (true≢false (sym (entry_too f.kind is) ∙ ap (is_entry pool) kind))
 
-  one_of : (f : FieldType) → holds_map pool f ≡ false → values_of pool f ≡ f
+  pub one_of : (f : FieldType) → holds_map pool f ≡ false → values_of pool f ≡ f
   one_of f is = ap (λ b. cond b (entry_part pool f 2) f) is
 
   -- neither are floating-point numbers
-  not_float : (f : FieldType) → holds_floats pool f ≡ false → holds_map pool f ≡ false → is_float f.kind ≡ false
+  pub not_float : (f : FieldType) → holds_floats pool f ≡ false → holds_map pool f ≡ false → is_float f.kind ≡ false
   not_float f whole is = by (is_float f.kind) refl where
     by : (b : Bool) → is_float f.kind ≡ b → b ≡ false
     by false e = refl
@@ -192,7 +201,7 @@ module _ (p skip as_declared expand : Bool) (pool : PoolType) (fields_of : HaveE
         first true b e = refl
         first false b e = absurd (cc e)
 
-  values_not_float : (f : FieldType) → holds_floats pool f ≡ false → holds_map pool f ≡ true → is_float (values_of pool f).kind ≡ false
+  pub values_not_float : (f : FieldType) → holds_floats pool f ≡ false → holds_map pool f ≡ true → is_float (values_of pool f).kind ≡ false
   values_not_float f whole is =
       let there = values_there f is in
       ap (λ (g : FieldType). is_float g.kind) there.2
@@ -202,7 +211,7 @@ module _ (p skip as_declared expand : Bool) (pool : PoolType) (fields_of : HaveE
         second true b e = absurd (cc e)
         second false b e = e
 
-  each_value : (f : FieldType) (levels : ℕ) (is : holds_map pool f ≡ true) (es : List (MapKey × Value))
+  pub each_value : (f : FieldType) (levels : ℕ) (is : holds_map pool f ≡ true) (es : List (MapKey × Value))
       → AllByRecursion (λ (e : MapKey × Value). (values : FieldType) → entry_field pool f.kind 2 ≡ Some values → FitsOne (Shaped levels) pool values e.1) es
       → AllByRecursion (λ (e : MapKey × Value). FitsOne (Shaped levels) pool (values_of pool f) e.1) es
   each_value f levels is [] all = tt
@@ -222,12 +231,9 @@ module _ (p skip as_declared expand : Bool) (pool : PoolType) (fields_of : HaveE
   entry_said f v k i key value h said =
       let a : Pair = (tree.plain (codes "key"), tree.one_scalar k) in
       let b : Pair = (tree.plain (codes "value"), given f v) in
-      let first : codes "key" ++ (colon p ++ key) ≡ one p (i + 2) a =
-      ap (λ l. codes "key" ++ (colon p ++ l)) h ∙ ap (λ l. codes "key" ++ l) (sym (scalar_given p (i + 2) k))
-      ∙ ap (λ l. l ++ given_shown p (i + 2) (tree.one_scalar k)) (sym (word_said (codes "key"))) in
       let second : codes "value" ++ (before_value p (message_in v) ++ value) ≡ one p (i + 2) b =
       ap (λ l. codes "value" ++ l) said ∙ ap (λ l. l ++ given_shown p (i + 2) (given f v)) (sym (word_said (codes "value"))) in
-      ap (λ l. pieces.in_braces p i true ((before_item p true false (i + 2) ++ l) ++ value_text p (i + 2) v value)) first
+      ap (λ l. pieces.in_braces p i true ((before_item p true false (i + 2) ++ l) ++ value_text p (i + 2) v value)) (key_said_one p (i + 2) k key h)
       ∙ ap (λ l. pieces.in_braces p i true ((before_item p true false (i + 2) ++ one p (i + 2) a) ++ (before_item p true true (i + 2) ++ l))) (second ∙ sym (append-nil (one p (i + 2) b)))
       ∙ ap (pieces.in_braces p i true) (append_assoc (before_item p true false (i + 2)) (one p (i + 2) a) (before_item p true true (i + 2) ++ (one p (i + 2) b ++ [])))
       ∙ braced_said p i (a ∷ b ∷ [])
@@ -248,11 +254,11 @@ module _ (p skip as_declared expand : Bool) (pool : PoolType) (fields_of : HaveE
       )
 
   -- what a value is, by whether its field is a map, and whether it is a list
-  abbrev Whole : Bool → FieldType → Type 0
+  abbrev pub Whole : Bool → FieldType → Type 0
   Whole true f = (holds_floats pool f ≡ false) × (holds_map pool f ≡ true)
   Whole false f = is_float f.kind ≡ false
 
-  abbrev Shows : (map_too repeated : Bool) → ℕ → FieldType → Value → Text → Type 0
+  abbrev pub Shows : (map_too repeated : Bool) → ℕ → FieldType → Value → Text → Type 0
   Shows true repeated i f v z = Behind i (values_of pool f) v z
   Shows false true i f v z = Behind i f v z
   Shows false false i f v z = Said i f v z
@@ -290,7 +296,7 @@ module _ (p skip as_declared expand : Bool) (pool : PoolType) (fields_of : HaveE
 
   module _ (x : ℕ) (printed : Printed) (unexpanded : Unexpanded x) (expansion : Expansion x) where
     mutual
-      value_said : {i : ℕ} {kind : Named} {v : Value} {z : Text} → IsValueText options payloads x i kind v z → (levels : ℕ) (f : FieldType) (b c : Bool) → kind ≡ named pool f.kind → Whole b f → FitsAs (Shaped levels) pool f b c v → Shows b c i f v z
+      pub value_said : {i : ℕ} {kind : Named} {v : Value} {z : Text} → IsValueText options payloads x i kind v z → (levels : ℕ) (f : FieldType) (b c : Bool) → kind ≡ named pool f.kind → Whole b f → FitsAs (Shaped levels) pool f b c v → Shows b c i f v z
       value_said {i = i} {v = v} (single_text s is text) levels f true c kind whole fits = absurd (cc (sym (single_seen v s is) ∙ map_seen v fits.0 fits.1))
       value_said {i = i} {v = v} (single_text s is text) levels f false true kind whole fits = absurd (cc (sym (single_seen v s is) ∙ list_seen v fits.0 fits.1))
       value_said {i = i} {v = v} {z = z} (single_text s is text) levels f false false kind whole fits =
@@ -335,7 +341,7 @@ module _ (p skip as_declared expand : Bool) (pool : PoolType) (fields_of : HaveE
       list_said {i = i} {first = first} (more_values {v = v} {vs = vs} y rest text texts) levels f kind whole fits =
           more_said first i (value_in (given f v)) (printed_list own schema inner (name_in pool f.kind) (kind_in pool f.group f.kind) (chain_of (map content_view vs))) y rest (value_said text levels f false false kind whole fits.0).0 (list_said texts levels f kind whole fits.1)
 
-      pair_said : {i : ℕ} {kind : Named} {e : MapKey × Value} {z : Text} → IsPairText options payloads x i kind e z → (levels : ℕ) (f : FieldType) → kind ≡ named pool f.kind → is_float f.kind ≡ false → FitsOne (Shaped levels) pool f e.1
+      pub pair_said : {i : ℕ} {kind : Named} {e : MapKey × Value} {z : Text} → IsPairText options payloads x i kind e z → (levels : ℕ) (f : FieldType) → kind ≡ named pool f.kind → is_float f.kind ≡ false → FitsOne (Shaped levels) pool f e.1
           → z ≡ value_shown p i (printed_entry (between p) (printed_single (name_in pool f.kind) (single_view (key_view e.0))) (given f e.1))
       pair_said {i = i} {e = e} (pair_text key value keyed text) levels f kind whole fits =
           entry_said f e.1 (printed_single (name_in pool f.kind) (single_view (key_view e.0))) i key value (key_said pool f.kind (key_view e.0) key (no_enum e.0) keyed) (value_said text levels f false false kind whole fits).1
@@ -375,7 +381,7 @@ module _ (p skip as_declared expand : Bool) (pool : PoolType) (fields_of : HaveE
           ap (λ l. before_item p braces any i ++ (l ++ rest)) (entry_text text levels fits.0)
           ∙ ap (λ l. before_item p braces any i ++ (one p i (pair_of e) ++ l)) (row_said texts levels fits.1)
 
-      entry_text : {i : ℕ} {e : Entry} {z : Text} → IsEntryText options payloads x i e z → (levels : ℕ) → EntryFits levels e → z ≡ one p i (pair_of e)
+      pub entry_text : {i : ℕ} {e : Entry} {z : Text} → IsEntryText options payloads x i e z → (levels : ℕ) → EntryFits levels e → z ≡ one p i (pair_of e)
       entry_text {i = i} (field_text {pool = q} {f = f} {v = v} y text) levels fits =
           ap (λ q. label_of q f ++ (before_value p (message_in v) ++ y)) fits.0
           ∙ ap (λ l. label_of pool f ++ l) (held_said i f v y (holds_map pool f) (holds_list pool f) refl fits.1 (λ b c is whole levels. value_said text levels f b c (ap (λ q. named q f.kind) fits.0) whole) levels fits.2)
