@@ -151,6 +151,10 @@ module _ (p skip as_declared expand : Bool) (pool : PoolType) (fields_of : HaveE
         (told_item p braces any i (y ++ (rest ++ z))
         (entry_before text levels fine.0 is.0 (rest ++ z) (before_ends rest z (row_ends own payloads x texts refl) (ends refl)) (row_before texts levels fine.1 is.1 z (λ e. ends refl) t)))
 
+    -- the text of a message without its unknown records, which has none but where it is expanded
+    abbrev pub TellsNone : ℕ → Bool → DynamicMessage → Bool → Text → Type 0
+    TellsNone i braces m any z = IsItemsText own payloads x i braces m any z × (expand ≡ false → unknown_of m ≡ [])
+
     mutual
       value_told : {i : ℕ} {kind : Named} {v : Value} {z : Text} → IsValueText telling payloads x i kind v z → (levels : ℕ) (f : FieldType) (b c : Bool) → kind ≡ named pool f.kind → IsWhole b f → FitsAs (Shaped levels) pool f b c v → IsShown b c f v → TellsRecord z ⊎ IsValueText own payloads x i kind v z
       value_told (single_text s is text) levels f b c kind whole fit shown = inr (single_text s is text)
@@ -214,16 +218,16 @@ module _ (p skip as_declared expand : Bool) (pool : PoolType) (fields_of : HaveE
           (λ o os. more_pairs y rest o os)
 
       pub braced_told : {i : ℕ} {m : DynamicMessage} {z : Text} → IsBracedText telling payloads x i m z → (levels : ℕ) → m.descriptor.pool.now ≡ pool → Shaped levels m → AreShown p (tree_in m) → TellsRecord z ⊎ IsBracedText own payloads x i m z
-      braced_told {i = i} (braced any y text) levels there shaped shown = carried (items_told text levels there shaped shown) (told_braces p any i y) (λ o. braced any y o)
+      braced_told {i = i} (braced any y text) levels there shaped shown = carried (items_told text levels there shaped shown) (told_braces p any i y) (λ o. braced any y o.0)
 
-      pub items_told : {i : ℕ} {braces any : Bool} {m : DynamicMessage} {z : Text} → IsItemsText telling payloads x i braces m any z → (levels : ℕ) → m.descriptor.pool.now ≡ pool → Shaped levels m → AreShown p (tree_in m) → TellsRecord z ⊎ IsItemsText own payloads x i braces m any z
+      pub items_told : {i : ℕ} {braces any : Bool} {m : DynamicMessage} {z : Text} → IsItemsText telling payloads x i braces m any z → (levels : ℕ) → m.descriptor.pool.now ≡ pool → Shaped levels m → AreShown p (tree_in m) → TellsRecord z ⊎ TellsNone i braces m any z
       items_told (expanded url body y may stands text) zero there shaped shown = absurd shaped
       items_told {i = i} {braces = braces} {m = m} (expanded url body y may stands text) (suc levels) there shaped shown =
           let its = expansion_told levels m there shaped shown url body may stands i y text in
           carried its.3
           (λ t. told_item p braces false i (bracketed url ++ (padding p ++ y))
           (told_under (tree.expansion (parts its.0.0) (parts its.0.1)) (bracketed url) (url_said its.0.0 its.0.1 ∙ ap bracketed its.1) its.2 (padding p ++ y) (braced_ends telling payloads (x - 1) text) (told_padding p y t)))
-          (λ o. expanded url body y may stands o)
+          (λ o. (expanded url body y may stands o, λ off. absurd (true≢false (sym may.0 ∙ off))))
       items_told (listed ds os y rest either declared others first second) zero there shaped shown = absurd shaped
       items_told {m = m} (listed ds os y rest either declared others first second) (suc levels) there shaped shown =
           let fit = printed levels m there shaped ds declared in
@@ -234,7 +238,9 @@ module _ (p skip as_declared expand : Bool) (pool : PoolType) (fields_of : HaveE
           carried_two (row_told first levels fields) (row_told second levels (each_other m shaped.ordered.extensions (unknown_of m) os others (Fine levels) found))
           (told_behind y rest)
           (λ o t. row_before o.0 levels fields o.1 rest (λ e. told_ends rest (row_ends telling payloads x second e) t) t)
-          (λ o others_too. listed ds os y rest either declared (as_they_stand m shaped.ordered.extensions (unknown_of m) os others (no_records m shaped.ordered.extensions (unknown_of m) os others others_too.1)) o.0 others_too.0)
+          (λ o others_too.
+          let none = no_records m shaped.ordered.extensions (unknown_of m) os others others_too.1 in
+          (listed ds os y rest either declared (as_they_stand m shaped.ordered.extensions (unknown_of m) os others none) o.0 others_too.0, λ off. none))
 
       row_told : {i : ℕ} {braces any : Bool} {es : List Entry} {z : Text} → IsRowText telling payloads x i braces any es z → (levels : ℕ) → AllByRecursion (Fine levels) es → TellsRecord z ⊎ (IsRowText own payloads x i braces any es z × AllByRecursion IsOwn es)
       row_told no_entries levels fine = inr (no_entries, tt)

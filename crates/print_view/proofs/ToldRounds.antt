@@ -1,7 +1,8 @@
 -- A printed message tells an unknown record, or is printed without any, with expansions in one another.
-use Rattle.std.proofs.Common.{◌≡◌, ◌⊎◌, ◌-◌, ℕ, zero, suc, Bool, true, false, Option, sym, subst, arith}
+use Rattle.std.proofs.Common.{◌≡◌, ◌⊎◌, ◌-◌, ℕ, zero, suc, Bool, true, false, [], Option, sym, subst, arith}
 use Rattle.protox_lex.specs.Class.{Text}
 use Rattle.reflect_tables.specs.Types.{PoolType}
+use Rattle.reflect_message.specs.Held.{unknown_of}
 use Rattle.reflect_message.specs.Names.{DynamicMessage}
 use Rattle.reflect_print.specs.MessageTexts.{IsBracedText, IsItemsText}
 use Rattle.text_lines.specs.declared.options.FormatOptions.{FormatOptions}
@@ -67,7 +68,7 @@ module _ (p skip as_declared expand : Bool) (pool : PoolType) (sound : IsSound p
       )
 
   -- a whole message
-  pub whole_told : (x i : ℕ) (braces any : Bool) (m : DynamicMessage) (z : Text) → IsItemsText telling 100 x i braces m any z → m.descriptor.pool.now ≡ pool → Shaped 101 m → IsTold x m → TellsRecord z ⊎ IsItemsText own 100 x i braces m any z
+  pub whole_told : (x i : ℕ) (braces any : Bool) (m : DynamicMessage) (z : Text) → IsItemsText telling 100 x i braces m any z → m.descriptor.pool.now ≡ pool → Shaped 101 m → IsTold x m → TellsRecord z ⊎ (IsItemsText own 100 x i braces m any z × (expand ≡ false → unknown_of m ≡ []))
   whole_told x i braces any m z text there shaped shown =
       items_told p skip as_declared expand pool sound.entries (have_values pool sound) decoded (inner x) 100 x (printed_at p skip as_declared expand pool sound told decoded expandable x) (unexpanded_at p skip as_declared expand pool sound told decoded expandable x)
       (expansion_at p skip as_declared expand pool sound told decoded expandable x) (told_at x) text 101 there shaped
