@@ -36,7 +36,7 @@ use Rattle.reflect_index.proofs.Declared.{FieldDeclared, field_declared}
 use Rattle.linked_names.proofs.Sourced.{IsSourced, batch_sourced}
 use Rattle.linked_names.proofs.Stored.{names_apart, enum_of_batch, values_apart, new_scoped, field_spelled, group_spelled, value_spelled, extension_spelled}
 
-single_present : (s : Syntax) (c : Cardinality) (k : KindType) (o : Option ℤ) → IsMessageType k
+pub single_present : (s : Syntax) (c : Cardinality) (k : KindType) (o : Option ℤ) → IsMessageType k
     → is_repeated c ≡ false → has_presence s c k o ≡ true
 single_present s Optional (types.message i) o one single = refl
 single_present s Required (types.message i) o one single = refl
@@ -46,29 +46,29 @@ single_present s c k o one single = absurd one
 module _ (old new : PoolType) (ns : List FileDescriptorProto) (w : Linking) (is : IsOf old w)
     (pooled : ArePooled old) (names : name_faults w.indexes w.known w.before w.first ns ≡ [])
     (batch : FaultlessBatch (with_declared w ns) ns new) where
-  abbrev all : List Declaration
+  abbrev pub all : List Declaration
   all = ds old new ns w is pooled names batch
 
-  abbrev b : Batch
+  abbrev pub b : Batch
   b = batch.types.new.now
 
-  messages_are : new.messages ≡ old.messages ++ map message_of b.messages.items
+  pub messages_are : new.messages ≡ old.messages ++ map message_of b.messages.items
   messages_are = types_are old new ns w is pooled names batch
 
-  enums_are : new.enums ≡ old.enums ++ map enum_of b.enums.items
+  pub enums_are : new.enums ≡ old.enums ++ map enum_of b.enums.items
   enums_are = batch.added.enums
       ∙ ap (λ (p : PoolType). p.enums ++ map enum_of b.enums.items) is.tables
 
-  files_are : new.files ≡ old.files ++ map record_file ns
+  pub files_are : new.files ≡ old.files ++ map record_file ns
   files_are = batch.added.files ∙ ap (λ (p : PoolType). p.files ++ map record_file ns) is.tables
 
   -- a type stands where it did, or is one of the batch
-  abbrev TypeOf : ℕ → Type 0
+  abbrev pub TypeOf : ℕ → Type 0
   TypeOf i = ((i < length old.messages) × (type_at new i ≡ type_at old i))
       ⊎ (IsLater message_of old.messages b.messages.items i (type_at new i)
       ⊎ ((length new.messages ≤ i) × (type_at new i ≡ no_type)))
 
-  which_type : (i : ℕ) → TypeOf i
+  pub which_type : (i : ℕ) → TypeOf i
   which_type i = which message_of old.messages new.messages b.messages.items i no_type messages_are
 
   abbrev EnumOf : ℕ → Type 0
@@ -79,7 +79,7 @@ module _ (old new : PoolType) (ns : List FileDescriptorProto) (w : Linking) (is 
   which_enum : (i : ℕ) → EnumOf i
   which_enum i = which enum_of old.enums new.enums b.enums.items i no_enum enums_are
 
-  no_field_there : (i j : ℕ) → type_at new i ≡ no_type → j < length (type_at new i).fields → ⊥
+  pub no_field_there : (i j : ℕ) → type_at new i ≡ no_type → j < length (type_at new i).fields → ⊥
   no_field_there i j none lt =
       let zero = ap (λ (t : MessageType). length t.fields) none in omega (arith, lt, zero)
 
@@ -140,8 +140,19 @@ module _ (old new : PoolType) (ns : List FileDescriptorProto) (w : Linking) (is 
 
   -- ---- fields
 
+  -- a field of a type of the batch, by its declaration
+  pub later_field : (i j : ℕ)
+      → (later : IsLater message_of old.messages b.messages.items i (type_at new i))
+      → j < length (type_at new i).fields
+      → FieldDeclared batch.references all (w.before.messages + later.place) j (type_of_field new i j)
+  later_field i j later lt =
+      field_declared batch.references w.before w.first ns b batch.declared.entries
+      later.place later.own j (type_of_field new i j) later.at
+      (subst (λ (t : MessageType). slice_get t.fields j ≡ Some (type_of_field new i j))
+      later.is (get_at (type_at new i).fields j no_field lt))
+
   -- what holds of the fields that the batch declares holds of all, if it did of those before
-  pub each_field : (P : FieldType → Type 0) → ((i j : ℕ) (f : FieldType)
+  each_field : (P : FieldType → Type 0) → ((i j : ℕ) (f : FieldType)
       → FieldDeclared batch.references all i j f → P f)
       → ((i j : ℕ) → j < length (type_at old i).fields → P (type_of_field old i j))
       → (i j : ℕ) → j < length (type_at new i).fields → P (type_of_field new i j)
@@ -150,10 +161,7 @@ module _ (old new : PoolType) (ns : List FileDescriptorProto) (w : Linking) (is 
         (sym (field_same old new b (map record_file ns) pooled files_are messages_are enums_are i here j))
         (has i j (subst (λ (t : MessageType). j < length t.fields) type lt))
     | inr (inl later) ↦ brings (w.before.messages + later.place) j (type_of_field new i j)
-        (field_declared batch.references w.before w.first ns b batch.declared.entries
-        later.place later.own j (type_of_field new i j) later.at
-        (subst (λ (t : MessageType). slice_get t.fields j ≡ Some (type_of_field new i j))
-        later.is (get_at (type_at new i).fields j no_field lt)))
+        (later_field i j later lt)
     | inr (inr none) ↦ absurd (no_field_there i j none.1 lt)
   ]
 

@@ -87,7 +87,7 @@ module _ (old new : PoolType) (b : Batch) (more : List FileType) (pooled : ArePo
   numbered_same n =
       ap (λ (t : MessageType). find (λ (f : FieldType). f.number == n) t.fields) same
 
-  known_same : (n : ℕ) → known_field new i n ≡ known_field old i n
+  pub known_same : (n : ℕ) → known_field new i n ≡ known_field old i n
   known_same n =
       ap (option_and_then (if_held new)) (numbered_same n) ∙ by (numbered_field old i n) refl where
         by : (o : Option FieldType) → numbered_field old i n ≡ o

@@ -10,7 +10,9 @@ mod Kept
 mod ByteDefaults
 mod LoneLists
 pub mod Accepted
-pub mod Unset
+mod Unset
+mod FieldsKept
+pub mod ReadDefaults
 pub mod Stays
 pub mod Typed
 mod Example

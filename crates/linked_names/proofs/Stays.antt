@@ -3,10 +3,12 @@ use Rattle.std.proofs.Common.{ℕ, List, sym, subst}
 use Rattle.descriptor_records.specs.declared.file.FileDescriptorProto.{FileDescriptorProto}
 use Rattle.reflect_tables.specs.Types.{PoolType, FieldType, IsSettled}
 use Rattle.reflect_tables.specs.declared.stored.StoredEntry.{StoredEntry}
+use Rattle.reflect_pool.specs.Linked.{empty_pool}
+use Rattle.text_model.specs.Unset.{HaveReadDefaults}
+use Rattle.message_view.specs.Types.{types_of}
 use Rattle.text_view.specs.SourceNames.{IsGroupField, HasPartNames}
 use Rattle.linked_names.specs.Presence.{HasPresentMessages}
 use Rattle.linked_names.specs.SourcePools.{IsSourcePool}
-use Rattle.linked_names.specs.Unset.{HasReadUnset}
 
 same_group : (old : PoolType) (records : List FileDescriptorProto) (i : ℕ) (f : FieldType)
     → IsGroupField old i f → IsGroupField (record old { records = records }) i f
@@ -58,5 +60,9 @@ pub settled_present : (old new : PoolType) → IsSettled old new → HasPresentM
     → HasPresentMessages new
 settled_present old new settled has = subst HasPresentMessages (sym settled) has
 
-pub settled_unset : (old new : PoolType) → IsSettled old new → HasReadUnset old → HasReadUnset new
-settled_unset old new settled has = subst HasReadUnset (sym settled) has
+pub settled_unset : (old new : PoolType) → IsSettled old new → HaveReadDefaults (types_of old)
+    → HaveReadDefaults (types_of new)
+settled_unset old new settled has = subst (λ p. HaveReadDefaults (types_of p)) (sym settled) has
+
+pub empty_unset : HaveReadDefaults (types_of empty_pool)
+empty_unset t n f e declared lacks = absurd (cc e)

@@ -1,4 +1,3 @@
 pub mod OneProof
 pub mod Presence
 pub mod SourcePools
-pub mod Unset

@@ -10,13 +10,14 @@ ghost use Rattle.option_parts.specs.TypedOptions.{TypedFiles};
 ghost use Rattle.reflect_build.specs.Accepted.{FaultlessFiles};
 ghost use Rattle.reflect_pool.specs.Linked.{empty_pool};
 ghost use Rattle.reflect_tables.specs.Types.{IsSettled, PoolType};
-ghost use Rattle.message_view.specs.Sound.{IsSound};
+ghost use Rattle.text_model.specs.Unset.{HaveReadDefaults};
+ghost use Rattle.message_view.specs.Sound.{HaveNumbers, IsSound};
+ghost use Rattle.message_view.specs.Types.{types_of};
 ghost use Rattle.text_view.specs.SourceNames.{HaveOwnNames};
 ghost use Rattle.source_records.specs.LoneLists.{GivesLoneLists};
 ghost use Rattle.source_records.specs.SourceNames.{IsSourceFile};
 ghost use Rattle.linked_names.specs.Presence.{HasPresentMessages};
 ghost use Rattle.linked_names.specs.SourcePools.{IsSourcePool};
-ghost use Rattle.linked_names.specs.Unset.{HasReadUnset};
 
 /// Names of a pool without files are as sources give them.
 pub fn the_empty_pool_has_source_names()
@@ -73,21 +74,22 @@ pub fn settled_pools_keep_messages_present()
 /// In a pool without files each field without presence is read as not set where a text gives it its
 /// default: it is in no oneof, and the default is a value of its kind.
 pub fn the_empty_pool_has_read_unset()
-    ensures { HasReadUnset empty_pool }
+    ensures { HaveReadDefaults (types_of empty_pool) }
 {}
 
 /// So it stays where no pass finds a fault in the files that are added, and no list in their
 /// records is a member of a oneof.
 pub fn accepted_files_keep_unset_read()
     ensures { (old new : PoolType) (files : List FileDescriptorProto)
-        → IsSound old → FaultlessFiles old files new
+        → IsSound old → HaveNumbers new → FaultlessFiles old files new
         → AllByRecursion (λ (f : FileDescriptorProto). GivesLoneLists (file_view f)) files
-        → HasReadUnset old → HasReadUnset new }
+        → HaveReadDefaults (types_of old) → HaveReadDefaults (types_of new) }
 {}
 
 /// And where options are settled.
 pub fn settled_pools_keep_unset_read()
-    ensures { (old new : PoolType) → IsSettled old new → HasReadUnset old → HasReadUnset new }
+    ensures { (old new : PoolType) → IsSettled old new → HaveReadDefaults (types_of old)
+        → HaveReadDefaults (types_of new) }
 {}
 
 /// The options that linking reads itself say nothing of what is in a oneof.

@@ -1,4 +1,4 @@
-use Rattle.linked_names.proofs.Unset.{accepted_unset}
+use Rattle.linked_names.proofs.ReadDefaults.{accepted_unset}
 use Rattle.linked_names.proofs.laws.accepted_files_keep_unset_read.Goals as goal
 
 pub returns : goal.returns
