@@ -1,146 +1,127 @@
 -- No field that a batch declares is a list in a oneof, where the records of its files have none.
-use Rattle.std.proofs.Common.{◌+◌, ◌++◌, ℕ, ℤ, pos, List, [], ◌∷◌, map, Option, None, Some, subst}
-use Rattle.std.specs.List.{AllByRecursion}
-use Rattle.descriptor_records.specs.Content.{Text, field_view, file_view}
-use Rattle.descriptor_records.specs.declared.enums.EnumDescriptorProto.{EnumDescriptorProto}
-use Rattle.descriptor_records.specs.declared.field.FieldDescriptorProto.{FieldDescriptorProto}
-use Rattle.descriptor_records.specs.declared.field.OneofDescriptorProto.{OneofDescriptorProto}
+use Rattle.std.proofs.Common.{◌≡◌, ◌++◌, inl, inr, ℕ, List, [], ◌∷◌, map, Option, None, Some, refl, subst}
+use Rattle.std.specs.List.{AllByRecursion, Contains, flat_map}
+use Rattle.std.proofs.lemmas.List.Elements.{Contains-append_cases}
+use Rattle.descriptor_records.specs.Content.{Text, EnumContent, FileContent, MessageContent, MessageContents, ServiceContent, file_view, message, messages_of, more_messages, no_messages}
 use Rattle.descriptor_records.specs.declared.file.FileDescriptorProto.{FileDescriptorProto}
-use Rattle.descriptor_records.specs.declared.service.ServiceDescriptorProto.{ServiceDescriptorProto}
-use Rattle.reflect_scope.specs.Means.{join}
 use Rattle.reflect_declarations.specs.Batches.{batch_declarations}
-use Rattle.reflect_declarations.specs.Declarations.{Declaration, of_field, each, entry, one_field, one_oneof, one_value, one_enum, one_method, one_service, one_extension, past_message, past_tree, past_trees, past_file, trees_of, tree_declarations, trees_declarations, file_declarations}
-use Rattle.reflect_declarations.specs.Tree.{text_of, Message, message, Messages, no_messages, more_messages}
+use Rattle.reflect_declarations.specs.Declarations.{Declaration}
 use Rattle.reflect_declarations.specs.declared.offsets.Offsets.{Offsets}
-use Rattle.reflect_pool.proofs.Grown.{all_behind}
+use Rattle.reflect_index.proofs.Among.{Among, of_all, place_of}
+use Rattle.schema_view.specs.Declarations as view
+use Rattle.schema_view.specs.Declarations.{of_field, declarations, in_message, in_messages, one_enum, one_extension, one_field, one_method, one_oneof, one_service, one_value}
+use Rattle.schema_view.specs.Files.{join, package_of, text_of}
+use Rattle.schema_view.proofs.Lists.{contains_cases, contains_flat_cases, contains_map_cases, contains_none}
 use Rattle.source_records.specs.LoneLists.{IsLoneList, HasLoneLists, HaveLoneLists, GivesLoneLists}
-use Rattle.reflect_index.proofs.Among.{Among, of_all}
-use Rattle.linked_view.proofs.Walked.{tree_content, trees_content}
-use Rattle.linked_names.proofs.Sourced.{contents_are}
+use Rattle.linked_view.proofs.Indexed.{among}
+use Rattle.linked_view.proofs.Places.{get_contains}
+use Rattle.linked_view.proofs.Shown.{IsShown, shown_in}
+use Rattle.linked_view.proofs.Walked.{seen_body}
 
 -- it is no such field
+abbrev IsLoneBody : view.Body → Type 0
+IsLoneBody b = elim b [ of_field f ↦ IsLoneList f | _ ↦ Unit {0} ]
+
+abbrev IsLoneSeen : Option view.Body → Type 0
+IsLoneSeen None = Unit {0}
+IsLoneSeen (Some b) = IsLoneBody b
+
 abbrev pub IsLone : Declaration → Type 0
-IsLone d = elim d.body [ of_field r ↦ IsLoneList (field_view r) | _ ↦ Unit {0} ]
+IsLone d = IsLoneSeen (seen_body d.body)
 
-abbrev AreLone : List Declaration → Type 0
-AreLone ds = AllByRecursion IsLone ds
+-- ---- what the content of a file declares
 
-both_lone : (a b : List Declaration) → AreLone a → AreLone b → AreLone (a ++ b)
-both_lone a b h k = all_behind IsLone a b h k
+record AreLone (ds : List view.Declaration) : Type 0 where
+  at : (d : view.Declaration) → Contains ds d → IsLoneBody d.body
 
--- ---- fields, and what is none
+one_more : (d : view.Declaration) (ds : List view.Declaration) → IsLoneBody d.body → AreLone ds
+    → AreLone (d ∷ ds)
+one_more d ds here h = record {
+  at = λ e i. elim (contains_cases d ds e i) [
+    | inl same ↦ subst (λ (x : view.Declaration). IsLoneBody x.body) same here
+    | inr j ↦ h.at e j
+  ];
+}
 
-fields_lone : (path : List ℤ) (scope : Text) (file parent k : ℕ) (fs : List FieldDescriptorProto)
-    → AllByRecursion IsLoneList (map field_view fs)
-    → AreLone (each (one_field path scope file parent) k fs)
-fields_lone path scope file parent k [] h = tt
-fields_lone path scope file parent k (f ∷ fs) h =
-    (h.0, fields_lone path scope file parent (k + 1) fs h.1)
+both_lone : (a b : List view.Declaration) → AreLone a → AreLone b → AreLone (a ++ b)
+both_lone a b h k = record {
+  at = λ e i. elim (Contains-append_cases a b e i) [ inl j ↦ h.at e j | inr j ↦ k.at e j ];
+}
 
-each_other : {A : Type 0} (one : ℕ → A → List Declaration) → ((k : ℕ) (x : A) → AreLone (one k x))
-    → (k : ℕ) (xs : List A) → AreLone (each one k xs)
-each_other one other k [] = tt
-each_other one other k (x ∷ xs) =
-    both_lone (one k x) (each one (k + 1) xs) (other k x) (each_other one other (k + 1) xs)
+-- one declaration of each of a list, or several
+each_lone : {A : Type 0} (one : A → view.Declaration) (xs : List A)
+    → ((x : A) → Contains xs x → IsLoneBody (one x).body) → AreLone (map one xs)
+each_lone one xs h = record {
+  at = λ e i. (
+      let x = contains_map_cases one xs e i in
+      subst (λ (d : view.Declaration). IsLoneBody d.body) x.2 (h x.0 x.1));
+}
 
-enums_lone : (path : List ℤ) (tag : ℤ) (scope : Text) (file : ℕ) (parent : Option ℕ) (n : ℕ)
-    (es : List EnumDescriptorProto) → AreLone (each (one_enum path tag scope file parent n) 0 es)
-enums_lone path tag scope file parent n es =
-    each_other (one_enum path tag scope file parent n) (λ k e. (
-      tt,
-      each_other (one_value (entry path tag k) scope file (n + k)) (λ i v. (tt, tt)) 0
-          e.value.items,
-    )) 0 es
+all_lone : {A : Type 0} (some : A → List view.Declaration) (xs : List A)
+    → ((x : A) → Contains xs x → AreLone (some x)) → AreLone (flat_map some xs)
+all_lone some xs h = record {
+  at = λ e i. (let x = contains_flat_cases some xs e i in (h x.0 x.1).at e x.2);
+}
 
-extensions_lone : (path : List ℤ) (tag : ℤ) (scope : Text) (file : ℕ) (parent : Option ℕ) (n : ℕ)
-    (xs : List FieldDescriptorProto)
-    → AreLone (each (one_extension path tag scope file parent n) 0 xs)
-extensions_lone path tag scope file parent n xs =
-    each_other (one_extension path tag scope file parent n) (λ k x. (tt, tt)) 0 xs
+enum_lone : (scope : Text) (e : EnumContent) → AreLone (one_enum scope e)
+enum_lone scope e = one_more _ _ tt (each_lone (one_value scope) e.value (λ v i. tt))
 
-oneofs_lone : (path : List ℤ) (scope : Text) (file parent : ℕ) (os : List OneofDescriptorProto)
-    → AreLone (each (one_oneof path scope file parent) 0 os)
-oneofs_lone path scope file parent os =
-    each_other (one_oneof path scope file parent) (λ k o. (tt, tt)) 0 os
-
-services_lone : (scope : Text) (file n : ℕ) (ss : List ServiceDescriptorProto)
-    → AreLone (each (one_service scope file n) 0 ss)
-services_lone scope file n ss =
-    each_other (one_service scope file n) (λ k s. (
-      tt,
-      each_other (one_method (entry [] (pos 6) k) (join scope (text_of s.name)) file (n + k))
-          (λ i m. (tt, tt)) 0 s.method.items,
-    )) 0 ss
-
--- ---- messages
+service_lone : (scope : Text) (s : ServiceContent) → AreLone (one_service scope s)
+service_lone scope s =
+    one_more _ _ tt (each_lone (one_method (join scope (text_of s.name))) s.method (λ m i. tt))
 
 mutual
-  tree_lone : (path : List ℤ) (scope : Text) (file : ℕ) (parent : Option ℕ) (o : Offsets)
-      (m : Message) → HasLoneLists (tree_content m)
-      → AreLone (tree_declarations path scope file parent o m)
-  tree_lone path scope file parent o (message own nested) h =
-      let n = join scope (text_of own.name) in
-      let up = Some o.messages in
-      let behind = past_trees (past_message o) nested in
-      let fields = each (one_field path n file o.messages) 0 own.field in
-      let inner = trees_declarations path (pos 3) n file up 0 (past_message o) nested in
-      let enums = each (one_enum path (pos 4) n file up behind.enums) 0 own.enum_type in
-      let extensions = each (one_extension path (pos 6) n file up behind.extensions) 0
-      own.extension in
-      let oneofs = each (one_oneof path n file o.messages) 0 own.oneof_decl in (
-        tt,
-        both_lone fields (inner ++ (enums ++ (extensions ++ oneofs)))
-            (fields_lone path n file o.messages 0 own.field h.0)
-            (both_lone inner (enums ++ (extensions ++ oneofs))
-            (trees_lone path (pos 3) n file up 0 (past_message o) nested h.1)
-            (both_lone enums (extensions ++ oneofs)
-            (enums_lone path (pos 4) n file up behind.enums own.enum_type)
-            (both_lone extensions oneofs
-            (extensions_lone path (pos 6) n file up behind.extensions own.extension)
-            (oneofs_lone path n file o.messages own.oneof_decl)))),
-      )
+  message_lone : (scope : Text) (m : MessageContent) → HasLoneLists m
+      → AreLone (in_message scope m)
+  message_lone scope (message name fs xs nested es rs os o rr rn) h =
+      let n = join scope (text_of name) in
+      one_more _ _ tt
+      (both_lone _ _
+      (each_lone (one_field n) fs (λ f i. of_all IsLoneList f fs h.0 (among fs f i)))
+      (both_lone _ _ (messages_lone n nested h.1)
+      (both_lone _ _ (all_lone (one_enum n) es (λ e i. enum_lone n e))
+      (both_lone _ _ (each_lone (one_extension n) xs (λ x i. tt))
+      (each_lone (one_oneof n) os (λ o i. tt))))))
 
-  trees_lone : (path : List ℤ) (tag : ℤ) (scope : Text) (file : ℕ) (parent : Option ℕ) (k : ℕ)
-      (o : Offsets) (ms : Messages) → HaveLoneLists (trees_content ms)
-      → AreLone (trees_declarations path tag scope file parent k o ms)
-  trees_lone path tag scope file parent k o no_messages h = tt
-  trees_lone path tag scope file parent k o (more_messages m ms) h =
-      both_lone (tree_declarations (entry path tag k) scope file parent o m)
-      (trees_declarations path tag scope file parent (k + 1) (past_tree o m) ms)
-      (tree_lone (entry path tag k) scope file parent o m h.0)
-      (trees_lone path tag scope file parent (k + 1) (past_tree o m) ms h.1)
+  messages_lone : (scope : Text) (ms : MessageContents) → HaveLoneLists ms
+      → AreLone (in_messages scope ms)
+  messages_lone scope no_messages h = record { at = λ e i. absurd (contains_none e i) }
+  messages_lone scope (more_messages m ms) h =
+      both_lone _ _ (message_lone scope m h.0) (messages_lone scope ms h.1)
 
--- ---- files
+one_of : (ms : List MessageContent) → HaveLoneLists (messages_of ms) → (m : MessageContent)
+    → Contains ms m → HasLoneLists m
+one_of [] h m i = absurd (contains_none m i)
+one_of (x ∷ ms) h m i = elim (contains_cases x ms m i)
+    [ inl same ↦ subst HasLoneLists same h.0 | inr j ↦ one_of ms h.1 m j ]
 
-file_lone : (o : Offsets) (i : ℕ) (f : FileDescriptorProto) → GivesLoneLists (file_view f)
-    → AreLone (file_declarations o i f)
-file_lone o i f h =
-    let n = text_of f.package in
-    let past = past_trees o (trees_of f) in
-    let inner = trees_declarations [] (pos 4) n i None 0 o (trees_of f) in
-    let enums = each (one_enum [] (pos 5) n i None past.enums) 0 f.enum_type.items in
-    let services = each (one_service n i o.services) 0 f.service.items in
-    let extensions = each (one_extension [] (pos 7) n i None past.extensions) 0 f.extension.items
-    in (
-      tt,
-      both_lone inner (enums ++ (services ++ extensions))
-          (trees_lone [] (pos 4) n i None 0 o (trees_of f)
-          (subst HaveLoneLists (contents_are f.message_type.items) h))
-          (both_lone enums (services ++ extensions)
-          (enums_lone [] (pos 5) n i None past.enums f.enum_type.items)
-          (both_lone services extensions (services_lone n i o.services f.service.items)
-          (extensions_lone [] (pos 7) n i None past.extensions f.extension.items))),
-    )
+file_lone : (f : FileContent) → GivesLoneLists f → AreLone (declarations f)
+file_lone f h =
+    let n = package_of f in
+    both_lone _ _
+    (all_lone (in_message n) f.message_type (λ m i.
+    message_lone n m (one_of f.message_type h m i)))
+    (both_lone _ _ (all_lone (one_enum n) f.enum_type (λ e i. enum_lone n e))
+    (both_lone _ _ (all_lone (one_service n) f.service (λ s i. service_lone n s))
+    (each_lone (one_extension n) f.extension (λ x i. tt))))
 
-files_lone : (o : Offsets) (i : ℕ) (fs : List FileDescriptorProto)
-    → AllByRecursion (λ (f : FileDescriptorProto). GivesLoneLists (file_view f)) fs
-    → AreLone (batch_declarations o i fs)
-files_lone o i [] h = tt
-files_lone o i (f ∷ fs) h =
-    both_lone (file_declarations o i f) (batch_declarations (past_file o f) (i + 1) fs)
-    (file_lone o i f h.0) (files_lone (past_file o f) (i + 1) fs h.1)
+-- ---- what a batch declares
 
 pub batch_lone : (o : Offsets) (i : ℕ) (fs : List FileDescriptorProto)
     → AllByRecursion (λ (f : FileDescriptorProto). GivesLoneLists (file_view f)) fs
     → (d : Declaration) → Among d (batch_declarations o i fs) → IsLone d
-batch_lone o i fs all d h = of_all IsLone d (batch_declarations o i fs) (files_lone o i fs all) h
+batch_lone o i fs all d h = by (seen_body d.body) refl where
+  shown : IsShown i fs d
+  shown =
+      let spot = place_of d (batch_declarations o i fs) h in
+      shown_in o i fs d (get_contains (batch_declarations o i fs) spot.0 d spot.1)
+
+  gives : GivesLoneLists (file_view shown.own)
+  gives = of_all (λ (f : FileDescriptorProto). GivesLoneLists (file_view f)) shown.own fs all
+      (among fs shown.own (get_contains fs shown.place shown.own shown.at))
+
+  by : (o : Option view.Body) → seen_body d.body ≡ o → IsLoneSeen o
+  by None is = tt
+  by (Some b) is =
+      let v = shown.shown b is in
+      subst IsLoneBody v.3 ((file_lone (file_view shown.own) gives).at v.0 v.1)

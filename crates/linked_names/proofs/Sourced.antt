@@ -55,7 +55,7 @@ may_hold E X scope o naming (inl h) none =
 may_hold E X scope o naming (inr h) none = inr (none h.0)
 
 -- a file's messages, as its content has them
-pub contents_are : (ms : List DescriptorProto) → content.messages_of (map message_view ms)
+contents_are : (ms : List DescriptorProto) → content.messages_of (map message_view ms)
     ≡ trees_content (messages_of (map tree_of ms))
 contents_are [] = refl
 contents_are (m ∷ ms) = λ i. content.more_messages (content_is m i) (contents_are ms i)

@@ -69,7 +69,7 @@ module _ (batches more : List (List FileContent)) (after : List FileContent) (bu
   grow = grows_further more batches before after was built
 
   schema : schema_of s.pool.now unread ≡ schema_in (view_of before) unread
-  schema = ap (λ (q : PoolType). schema_of q unread) stands.in_pool ∙ settled_names batches p stands.typed stands.kept unread
+  schema = ap (λ (q : PoolType). schema_of q unread) stands.in_pool ∙ settled_names batches p stands.typed stands.whole.kept unread
 
   -- the type of the options is declared by them
   found : type_called (view_of before) (type_name scope) ≡ Some (type_name scope)

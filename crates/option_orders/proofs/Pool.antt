@@ -41,8 +41,8 @@ use Rattle.linked_view.proofs.Places.{contains_get, get_contains, get_less}
 use Rattle.linked_view.proofs.Resolved.{holds_from}
 use Rattle.linked_view.proofs.Sees.{sees_from, sees_to}
 use Rattle.linked_view.proofs.Walked.{text_seen}
-use Rattle.settled_view.proofs.Transfer.{headers_same, indexed_before, kept_before, known_same}
-use Rattle.types_view.specs.Pools.{IsIndexed, IsKept}
+use Rattle.settled_view.proofs.Transfer.{headers_same, known_same, pool_before}
+use Rattle.types_view.specs.Pools.{IsPool}
 use Rattle.option_orders.specs.Standing.{StandsIn}
 use Rattle.option_orders.proofs.Entries.{HasEntry, entry_of}
 use Rattle.option_orders.proofs.LooksUp.{LooksUp, StandsAmong, extension_kind, extension_place, extension_seen}
@@ -69,7 +69,7 @@ module _ (batches : List (List FileContent)) (p : PoolType) (s : NameScope) (fil
   -- ---- files by their places
 
   headers : p.files ≡ map record_file files
-  headers = is.recorded.headers ∙ headers_same linked p is.typed.but.settles
+  headers = is.whole.recorded.headers ∙ headers_same linked p is.typed.but.settles
 
   names_are : names_of_files p.files ≡ names_in files
   names_are = ap names_of_files headers ∙ names_recorded files
@@ -128,11 +128,8 @@ module _ (batches : List (List FileContent)) (p : PoolType) (s : NameScope) (fil
   are_known : AreKnown files known
   are_known = files_known files is.typed.but.built.named.named
 
-  indexed : IsIndexed linked
-  indexed = indexed_before linked p is.typed.but.settles is.indexed
-
-  kept : IsKept linked
-  kept = kept_before linked p is.typed.but.settles is.kept
+  whole : IsPool linked
+  whole = pool_before linked p is.typed.but.settles is.whole
 
   there : (i : ℕ) (f : FileDescriptorProto) → slice_get files i ≡ Some f → Contains fs (file_view f)
   there i f e = contains_map file_view files f (get_contains files i f e)
@@ -143,7 +140,7 @@ module _ (batches : List (List FileContent)) (p : PoolType) (s : NameScope) (fil
       let at : found extensions known n ≡ Some (k.0, d.file) =
       ap (place_in extensions) h.known_as ∙ ap (λ x. with_file d (place_of extensions x)) k.1 in
       let x = got_map extension_name linked.extensions k.0 (n, d.file)
-      ((indexed.named.found extensions n k.0 d.file).0 at) in
+      ((whole.indexed.named.found extensions n k.0 d.file).0 at) in
       let told = is.typed.tells.extensions x.0 (get_contains linked.extensions k.0 x.0 x.1) in
       let name : x.0.field.full_name ≡ n = ap (λ (y : FullName). y.0) x.2 in
       let declared : Declaration = record { name = n; body = of_extension told.field.content } in
@@ -175,13 +172,13 @@ module _ (batches : List (List FileContent)) (p : PoolType) (s : NameScope) (fil
       subst (λ (g : FileContent). Contains (declarations g) declared) (sym f.2) h.inside in
       let d = are_known.declared_known j.0 f.0 (head_of declared) j.1
       (contains_map head_of (declarations (file_view f.0)) declared inside) in
-      let y : HasEntry linked lawful is.typed.tells built.values built.entries built.declared kept.names
-      built.extensions n =
-      entry_of linked lawful is.typed.tells built.values built.entries built.declared kept.names
-      built.extensions h.file n h.content h.there h.inside in
+      let y : HasEntry linked lawful is.typed.tells built.values built.entries built.declared
+      whole.kept.names built.extensions n =
+      entry_of linked lawful is.typed.tells built.values built.entries built.declared
+      whole.kept.names built.extensions h.file n h.content h.there h.inside in
       let named = get_map extension_name linked.extensions y.place y.entry y.at
       ∙ ap (λ m. Some (m, y.entry.file)) y.name in
-      let at = (indexed.named.found extensions n y.place y.entry.file).1 named in
+      let at = (whole.indexed.named.found extensions n y.place y.entry.file).1 named in
       let e = found_place extensions (known n) y.place y.entry.file at in
       let same : e.0 ≡ d.0 = cc (sym e.1 ∙ d.1) in
       let is_one = extension_place e.0.kind y.place e.2 in

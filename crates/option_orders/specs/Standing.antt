@@ -7,7 +7,7 @@ use Rattle.reflect_pool.specs.Imports.{names_of_files}
 use Rattle.reflect_tables.specs.Types.{PoolType}
 use Rattle.schema_view.specs.Lawful.{Builds, SameFiles, sources}
 use Rattle.schema_view.specs.Plain.{IsPlainFile}
-use Rattle.types_view.specs.Pools.{IsIndexed, IsKept, IsRecorded}
+use Rattle.types_view.specs.Pools.{IsPool}
 use Rattle.types_view.specs.Typed.{IsTyped}
 
 -- names of options are looked up in a pool that the batches built, in the file of this name, and in
@@ -15,9 +15,7 @@ use Rattle.types_view.specs.Typed.{IsTyped}
 pub record StandsIn (batches : List (List FileContent)) (p : PoolType) (s : NameScope)
     (file scope : Text) : Type 0 where
   pub typed : IsTyped batches p
-  pub recorded : IsRecorded p
-  pub indexed : IsIndexed p
-  pub kept : IsKept p
+  pub whole : IsPool p
   pub index : ℕ
   pub there : slice_get (names_of_files p.files) index ≡ Some file
   pub in_pool : s.pool.now ≡ p

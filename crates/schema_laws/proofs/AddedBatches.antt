@@ -24,7 +24,7 @@ pub linked_batch : (earlier : List (List FileContent)) (old new : PoolType)
     (files : List FileDescriptorProto) → IsTyped earlier old → IsPool new
     → FilesLinked old files new → IsBatch earlier old files new
 linked_batch earlier old new files is pool (linked, fit, options, settled, bare) =
-    let r = typed_more earlier old linked new fit.0 is pool.recorded pool.indexed pool.kept fit.2.1
+    let r = typed_more earlier old linked new fit.0 is pool fit.2.1
     (record { settled = settled; bare = bare }) in
     record { typed = fit.0; linking = r.linking; types = fit.1; of = r.of; built = r.typed }
 

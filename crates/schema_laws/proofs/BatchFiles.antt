@@ -22,7 +22,8 @@ use Rattle.settled_again.proofs.Held.{new_given}
 use Rattle.settled_again.proofs.Linked.{linked_names, linked_sound}
 use Rattle.settled_view.specs.BuiltBut.{ChangesOptions}
 use Rattle.settled_view.proofs.Built.{itself}
-use Rattle.settled_view.proofs.Transfer.{indexed_before, kept_before, recorded_before}
+use Rattle.settled_view.proofs.Many.{as_many}
+use Rattle.settled_view.proofs.Transfer.{pool_before}
 use Rattle.text_view.specs.SourceNames.{HaveOwnNames}
 use Rattle.types_view.specs.Typed.{IsTyped}
 use Rattle.types_view.proofs.Settled.{IsTypedMore, empty_typed, typed_more}
@@ -31,7 +32,6 @@ use Rattle.schema_laws.proofs.Front.{front_stays}
 use Rattle.schema_laws.proofs.Grown.{empty_is_pool}
 use Rattle.schema_laws.proofs.Lists.{back_get, front_map}
 use Rattle.schema_laws.proofs.Naming.{empty_sources}
-use Rattle.schema_laws.proofs.PlainRecords.{as_many}
 
 -- the batches were linked into a pool that has types for all options
 pub record AreLinked (batches : List (List FileContent)) (p : PoolType) : Type 0 where
@@ -94,13 +94,13 @@ module _ (earlier : List (List FileContent)) (batch : List FileContent) (old new
   linked = add.linked
 
   more : IsTypedMore earlier old before.typed linked new add.typed
-  more = typed_more earlier old linked new add.typed before.typed add.is.recorded add.is.indexed add.is.kept add.faultless add.changes
+  more = typed_more earlier old linked new add.typed before.typed add.is add.faultless add.changes
 
   batch_is : (w : Linking) → IsOf old w → map file_view (new_files w.indexes add.typed) ≡ batch
   batch_is w of = ap (map file_view) (one_new old w add.faultless.0 add.typed of add.faultless.1) ∙ add.added
 
   many : length old.files ≡ length old.records
-  many = as_many old before.is.recorded
+  many = as_many old add.faultless.0 add.faultless.1
 
   -- ---- the pool as linking made it
   sound : IsSound linked
@@ -108,13 +108,9 @@ module _ (earlier : List (List FileContent)) (batch : List FileContent) (old new
 
   is_linked : AreLinked (batch ∷ earlier) linked
   is_linked =
-      let pool : IsPool linked = record {
-        recorded = recorded_before linked new add.changes add.is.recorded;
-        indexed = indexed_before linked new add.changes add.is.indexed;
-        kept = kept_before linked new add.changes add.is.kept;
-      } in
+      let pool : IsPool linked = pool_before linked new add.changes add.is in
       let m : IsTypedMore earlier old before.typed linked linked add.typed =
-      typed_more earlier old linked linked add.typed before.typed pool.recorded pool.indexed pool.kept add.faultless (itself linked) in
+      typed_more earlier old linked linked add.typed before.typed pool add.faultless (itself linked) in
       record {
         typed = subst (λ (b : List FileContent). IsTyped (b ∷ earlier) linked) (batch_is m.linking m.of) m.typed;
         is = pool;
@@ -158,7 +154,7 @@ module _ (earlier : List (List FileContent)) (batch : List FileContent) (old new
       ap (λ (rs : List FileDescriptorProto). slice_get rs k) more.beside ∙ back_get old.records was ms k as_many_were far
       ∙ sym (ap (λ (rs : List FileDescriptorProto). slice_get rs k) more.behind) ∙ f.1 in
       let behind : length old.files ≤ k = omega (arith, far, many) in
-      let given = new_given old linked new add.typed add.faultless add.settles add.changes.settled sound many add.given k f.0 there behind in
+      let given = new_given old linked new add.typed add.faultless add.settles add.changes.settled sound add.given k f.0 there behind in
       let stood : HasFile linked k x = record { file = f.0; there = there; content = f.2; given = given } in
       record {
         own = batch ∷ earlier;

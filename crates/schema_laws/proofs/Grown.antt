@@ -62,7 +62,7 @@ files_more : (old new : Schema) (files : List FileDescriptorProto) → HasGrown 
 files_more old new files was pool read plain (linked, (typed, types, (adds, faultless)), settles, settled, bare) =
     let changes : ChangesOptions linked new.pool = record { settled = settled; bare = bare } in
     let names : HaveOwnNames new.pool = names_stay linked new.pool settled (accepted_apart old.pool linked typed old.sound faultless was.names) in
-    let m = reads_more was.batches old.pool linked new.pool typed was.typed was.is.recorded pool.recorded pool.indexed pool.kept new.sound names faultless settles changes (files_copied files typed read types) was.alike in
+    let m = reads_more was.batches old.pool linked new.pool typed was.typed pool new.sound names faultless settles changes (files_copied files typed read types) was.alike in
     record {
       is = pool;
       names = names;
@@ -70,18 +70,18 @@ files_more old new files was pool read plain (linked, (typed, types, (adds, faul
       batches = _;
       typed = m.built;
       alike = m.alike;
-      told = settled_tells linked new.pool changes (accepted_tell old.pool linked typed was.is.recorded was.told faultless);
+      told = settled_tells linked new.pool changes (accepted_tell old.pool linked typed was.told faultless);
       reads = λ scope. settled_reads linked new.pool changes scope (settles.readable scope);
     }
 
 pub sources_more : (old new : Schema) (given : Sources) → HasGrown old.pool → SourcesLinked old.pool given new.pool → IsPool new.pool → HasGrown new.pool
 sources_more old new given was linked pool =
-    files_more old new linked.0 was pool (sources_read given linked.0 linked.1) (sources_plain old.pool new.pool given new.sound was.is.recorded pool.recorded was.plain linked) linked.2
+    files_more old new linked.0 was pool (sources_read given linked.0 linked.1) (sources_plain old.pool new.pool given new.sound was.plain linked) linked.2
 
 grown_more : (old new : Schema) (given : Addition) → HasGrown old.pool → AdditionLinked old.pool given new.pool → IsPool new.pool → HasGrown new.pool
 grown_more old new (of_sources given) was linked pool = sources_more old new given was linked pool
 grown_more old new (of_set bytes) was linked pool =
-    files_more old new linked.0 was pool (set_read bytes linked.0 linked.1) (set_plain old.pool new.pool bytes new.sound was.is.recorded pool.recorded was.plain linked) linked.2
+    files_more old new linked.0 was pool (set_read bytes linked.0 linked.1) (set_plain old.pool new.pool bytes new.sound was.plain linked) linked.2
 
 pub grown : (additions : List Addition) (s : Schema) → IsMadeBy AdditionLinked additions s → HasGrown s.pool
 grown [] s is = subst HasGrown (sym is) empty_grown

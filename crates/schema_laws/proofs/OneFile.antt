@@ -1,5 +1,6 @@
 -- A file that was linked to one content in two pools of the same files in the end settled to one content.
 use Rattle.std.proofs.Common.{◌≡◌, ◌<◌, ◌++◌, ◌∙◌, ℕ, List, [], ◌∷◌, map, length, None, Some, slice_get, ap, refl, sym, subst, arith, Contains}
+use Rattle.std.proofs.lemmas.List.{length-map}
 use Rattle.std.proofs.lemmas.Option.{same_Some}
 use Rattle.std.proofs.lemmas.List.Elements.{recursion_from_All}
 use Rattle.std.specs.List.{AllByRecursion, AllZip}
@@ -39,7 +40,6 @@ use Rattle.settled_records.proofs.InEntities.{entities_of}
 use Rattle.settled_records.proofs.OfEntities.{Meets}
 use Rattle.settled_records.proofs.PlainOptions.{file_of, said}
 use Rattle.schema_laws.proofs.BatchFiles.{IsOfLast, IsOneOf}
-use Rattle.schema_laws.proofs.PlainRecords.{as_many}
 
 -- ---- options of a file as sources gave it
 -- of the file of an index, and as a source gives them
@@ -63,7 +63,7 @@ module _ (batches : List (List FileContent)) (x y : FileContent) (a : IsOfLast b
   near : a.index < length a.pool.files
   near =
       let less : a.index < length a.pool.records = get_less a.pool.records a.index a.stood.file a.stood.there in
-      let many : length a.pool.files ≡ length a.pool.records = as_many a.pool a.linked.is.recorded in
+      let many : length a.pool.files ≡ length a.pool.records = ap length a.linked.is.recorded.headers ∙ length-map a.pool.records record_file in
       omega (arith, less, many)
 
   named : slice_get (names_of_files a.pool.files) a.index ≡ Some (header_told x).name
@@ -77,9 +77,7 @@ module _ (batches : List (List FileContent)) (x y : FileContent) (a : IsOfLast b
   stands : (s : NameScope) (c : Entity) → c.file ≡ a.index → IsScopeOf a.pool c s → StandsIn batches a.pool s (header_told x).name c.name
   stands s c own scope = record {
     typed = a.linked.typed;
-    recorded = a.linked.is.recorded;
-    indexed = a.linked.is.indexed;
-    kept = a.linked.is.kept;
+    whole = a.linked.is;
     index = a.index;
     there = named;
     in_pool = scope.pool;

@@ -94,27 +94,27 @@ module _ (s : Schema) (is : IsGrown s) (held : HoldsOptions s.pool) (short : len
     same = own_same s own.plain short files spells
 
     more : IsTypedMore [] empty_pool empty_typed linked linked typed
-    more = typed_more [] empty_pool linked linked typed empty_typed pool.recorded pool.indexed pool.kept faultless (itself linked)
+    more = typed_more [] empty_pool linked linked typed empty_typed pool faultless (itself linked)
 
     records : map file_view s.pool.records ≡ map file_view linked.records
     records = sym (linked_same own.batches s.pool own.typed own.is.kept own.plain own.alike linked linked files typed same copied more (itself linked).settled pool.kept)
 
     told : TellsMessages linked
-    told = accepted_tell empty_pool linked typed (search rules) empty_tells faultless
+    told = accepted_tell empty_pool linked typed empty_tells faultless
 
     names : schema_of s.pool unread ≡ schema_of linked unread
     names =
-        sym (names_again own.batches s.pool linked linked files typed own.typed own.is.kept own.plain own.alike same copied faultless (itself linked) pool.recorded pool.indexed pool.kept unread)
+        sym (names_again own.batches s.pool linked linked files typed own.typed own.is.kept own.plain own.alike same copied faultless (itself linked) pool unread)
 
     -- it reads the options that the schema read
     reads : (scope : OptionScope) → CanRead linked scope
     reads scope =
-        read_alike s.pool linked s.sound sound names (keep_alike s.pool linked typed own.told told faultless pool.recorded pool.indexed pool.kept records) scope (own.reads scope)
+        read_alike s.pool linked s.sound sound names (keep_alike s.pool linked typed own.told told faultless pool records) scope (own.reads scope)
 
     own_options : ArePlainFiles StoresBytes (map file_view s.pool.records) → (place : Option Place) (e : OptionErrorKind) → (e ≡ UndecodableOptions (Some wire.Memory) → ⊥) → RefusesFrom linked 0 place e → ⊥
     own_options bytes None e other (scope, tells, cannot) = cannot (reads scope)
     own_options bytes (Some place) e other refuses =
-        not_refused own.batches s.pool linked files typed own.typed own.is.kept own.plain held own.alike bytes same copied faultless pool.recorded pool.indexed pool.kept sound reads place e other refuses
+        not_refused own.batches s.pool linked files typed own.typed own.is.kept own.plain held own.alike bytes same copied faultless pool sound reads place e other refuses
 
   -- ---- the whole
   pub own_refused : AreBytes (pool_bytes s.pool) → (e : SchemaError) → (TellsMemory e → ⊥) → SetRefused empty_pool (pool_bytes s.pool) e

@@ -32,7 +32,7 @@ module _ (s t : Schema) (is : IsGrown s) (detour : IsDetour s t) where
       by : SetLinked empty_pool (pool_bytes s.pool) t.pool → types_of t.pool ≡ types_of s.pool
       by (files, spells, (linked, (typed, types, (adds, faultless)), settles, settled, bare)) =
           types_again g.batches s.pool linked t.pool files typed g.typed g.is.kept g.plain g.alike (own_same s g.plain detour.short files spells) types faultless
-          (record { settled = settled; bare = bare }) detour.pool.recorded detour.pool.indexed detour.pool.kept
+          (record { settled = settled; bare = bare }) detour.pool
 
   pub same_names : (decoded : Name → List ℕ → Option Message) → schema_of t.pool decoded ≡ schema_of s.pool decoded
   same_names decoded = by detour.linked
@@ -40,7 +40,7 @@ module _ (s t : Schema) (is : IsGrown s) (detour : IsDetour s t) where
       by : SetLinked empty_pool (pool_bytes s.pool) t.pool → schema_of t.pool decoded ≡ schema_of s.pool decoded
       by (files, spells, (linked, (typed, types, (adds, faultless)), settles, settled, bare)) =
           names_again g.batches s.pool linked t.pool files typed g.typed g.is.kept g.plain g.alike (own_same s g.plain detour.short files spells) types faultless
-          (record { settled = settled; bare = bare }) detour.pool.recorded detour.pool.indexed detour.pool.kept decoded
+          (record { settled = settled; bare = bare }) detour.pool decoded
 
   -- where its options are held as their types store them, or as sources give them
   pub same_records : HoldsOptions s.pool → AreBytes (pool_bytes s.pool) → map file_view t.pool.records ≡ map file_view s.pool.records
@@ -52,4 +52,4 @@ module _ (s t : Schema) (is : IsGrown s) (detour : IsDetour s t) where
       by : SetLinked empty_pool (pool_bytes s.pool) t.pool → map file_view t.pool.records ≡ map file_view s.pool.records
       by (files, spells, (linked, (typed, types, (adds, faultless)), settles, settled, bare)) =
           records_again g.batches s.pool linked t.pool files typed g.typed g.is.kept g.plain g.alike (own_same s g.plain detour.short files spells) types faultless
-          (record { settled = settled; bare = bare }) detour.pool.recorded detour.pool.indexed detour.pool.kept held stored settles t.sound
+          (record { settled = settled; bare = bare }) detour.pool held stored settles t.sound

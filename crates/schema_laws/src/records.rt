@@ -1,7 +1,6 @@
 //! Laws of the records of schemas, and of the sets that are written of them, each the contract of a
 //! function that does nothing. `SourcesLinked p sources q` and `SetLinked p bytes q` are what a
-//! schema promises where it takes sources or a set: that a pool `p` becomes `q`. What is asked of
-//! pools beside this each pool has, as `pools_are_whole` says.
+//! schema promises where it takes sources or a set: that a pool `p` becomes `q`.
 ghost use Rattle.std.specs.Prelude.{◌≡◌, ◌<◌, ◌^◌, List, ℕ, length, map};
 ghost use Rattle.descriptor_records.specs.Content.{file_view};
 ghost use Rattle.descriptor_records.specs.declared.file.FileDescriptorProto.{FileDescriptorProto};
@@ -18,15 +17,13 @@ ghost use Rattle.schema_laws.specs.Records.{HasPlainRecords};
 pub fn added_sources_leave_records_plain()
     ensures empty { IsRecorded empty_pool × HasPlainRecords empty_pool }
     ensures kept { (old : PoolType) (new : Schema) (sources : List (List ℕ × List ℕ))
-        → IsRecorded old → IsRecorded new.pool → HasPlainRecords old
-        → SourcesLinked old sources new.pool → HasPlainRecords new.pool }
+        → HasPlainRecords old → SourcesLinked old sources new.pool → HasPlainRecords new.pool }
 {}
 
 /// And so they stay where a set is added.
 pub fn added_sets_leave_records_plain()
     ensures { (old : PoolType) (new : Schema) (bytes : List ℕ)
-        → IsRecorded old → IsRecorded new.pool → HasPlainRecords old
-        → SetLinked old bytes new.pool → HasPlainRecords new.pool }
+        → HasPlainRecords old → SetLinked old bytes new.pool → HasPlainRecords new.pool }
 {}
 
 /// The set that is written of a schema is read as its records, and as nothing else, if it is no

@@ -40,7 +40,7 @@ use Rattle.stored_options.proofs.Later.{stored_later}
 use Rattle.protobuf_model.specs.Values.{Message}
 use Rattle.text_view.specs.Schemas.{schema_of}
 use Rattle.texts_view.proofs.Settled.{settled_names}
-use Rattle.types_view.specs.Pools.{IsIndexed, IsKept, IsRecorded}
+use Rattle.types_view.specs.Pools.{IsKept, IsPool}
 use Rattle.types_view.specs.Typed.{IsTyped}
 use Rattle.types_view.proofs.Settled.{IsTypedMore, empty_typed, settled_types, typed_more}
 use Rattle.settled_again.proofs.Linked.{linked_sound}
@@ -158,20 +158,20 @@ module _ (batches : List (List FileContent)) (p : PoolType) (t : IsTyped batches
 -- ---- so it is where files are accepted and settled
 module _ (batches : List (List FileContent)) (p linked new : PoolType) (files typed : List FileDescriptorProto) (t : IsTyped batches p) (kept : IsKept p)
     (plain : ArePlainFiles SaysAndIsSettled (map file_view p.records)) (alike : ReadsAlike t.but.linked p) (same : map file_view files ≡ map file_view p.records) (copied : TypedFiles files typed)
-    (faultless : FaultlessFiles empty_pool typed linked) (changes : ChangesOptions linked new) (recorded : IsRecorded new) (indexed : IsIndexed new) (also : IsKept new) where
+    (faultless : FaultlessFiles empty_pool typed linked) (changes : ChangesOptions linked new) (whole : IsPool new) where
   more_typed : IsTypedMore [] empty_pool empty_typed linked new typed
-  more_typed = typed_more [] empty_pool linked new typed empty_typed recorded indexed also faultless changes
+  more_typed = typed_more [] empty_pool linked new typed empty_typed whole faultless changes
 
   pub types_again : types_of new ≡ types_of p
-  types_again = types_same batches p t kept plain alike linked new files typed same copied more_typed changes.settled also
+  types_again = types_same batches p t kept plain alike linked new files typed same copied more_typed changes.settled whole.kept
 
   pub names_again : (decoded : Name → List ℕ → Option Message) → schema_of new decoded ≡ schema_of p decoded
-  names_again = names_same batches p t kept plain alike linked new files typed same copied more_typed changes.settled also
+  names_again = names_same batches p t kept plain alike linked new files typed same copied more_typed changes.settled whole.kept
 
   pub entities_again : HoldsOptions p → ArePlainFiles (λ scope o. AreBytes o.encoded) (map file_view p.records) → (k : ℕ) (f : FileDescriptorProto) → slice_get linked.records k ≡ Some f
       → AllByRecursion (Meets (λ file. said (Keeps p))) (file_entities k f)
-  entities_again held bytes = entities_keep batches p t kept plain alike linked new files typed same copied more_typed changes.settled also held bytes
+  entities_again held bytes = entities_keep batches p t kept plain alike linked new files typed same copied more_typed changes.settled whole.kept held bytes
 
   pub records_again : HoldsOptions p → ArePlainFiles (λ scope o. AreBytes o.encoded) (map file_view p.records) → SettlesPool linked 0 new → IsSound new → map file_view new.records ≡ map file_view p.records
   records_again held bytes settles sound =
-      settled_same batches p t kept plain alike linked new files typed same copied more_typed changes.settled also held bytes (linked_sound linked new changes.settled sound) settles.readable settles
+      settled_same batches p t kept plain alike linked new files typed same copied more_typed changes.settled whole.kept held bytes (linked_sound linked new changes.settled sound) settles.readable settles

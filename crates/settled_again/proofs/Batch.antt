@@ -1,7 +1,6 @@
 -- A batch of sources more: options are held as they were or as the batch gives them, and linking reads
 -- of all records what it read of those that it made.
-use Rattle.std.proofs.Common.{◌≡◌, List, ◌∷◌, map, length, ap, ◌∙◌}
-use Rattle.std.proofs.lemmas.List.{length-map}
+use Rattle.std.proofs.Common.{List, ◌∷◌, map, length}
 use Rattle.descriptor_records.specs.Content.{FileContent, file_view}
 use Rattle.descriptor_records.specs.declared.file.FileDescriptorProto.{FileDescriptorProto}
 use Rattle.message_view.specs.Sound.{IsSound}
@@ -17,7 +16,7 @@ use Rattle.settled_view.specs.BuiltBut.{ChangesOptions}
 use Rattle.stored_options.specs.CopiedOptions.{AreCopied}
 use Rattle.stored_options.proofs.Copied.{read_copied}
 use Rattle.text_view.specs.SourceNames.{HaveOwnNames}
-use Rattle.types_view.specs.Pools.{IsIndexed, IsKept, IsRecorded}
+use Rattle.types_view.specs.Pools.{IsKept, IsPool}
 use Rattle.types_view.specs.Typed.{IsTyped}
 use Rattle.settled_again.proofs.Grown.{held_stay}
 use Rattle.settled_again.proofs.Held.{held_after}
@@ -33,19 +32,18 @@ pub record HoldsMore (earlier : List (List FileContent)) (old new : PoolType) (t
   pub held : HoldsOptions new
   pub alike : ReadsAlike built.but.linked new
 
-pub holds_more : (earlier : List (List FileContent)) (old linked new : PoolType) (typed : List FileDescriptorProto) (was : IsTyped earlier old) → IsRecorded old → IsKept old → IsRecorded new → IsIndexed new
-    → IsKept new → IsSound new → HaveOwnNames new → FaultlessFiles old typed linked → SettlesPool linked (length old.files) new → ChangesOptions linked new
+pub holds_more : (earlier : List (List FileContent)) (old linked new : PoolType) (typed : List FileDescriptorProto) (was : IsTyped earlier old) → IsKept old → IsPool new
+    → IsSound new → HaveOwnNames new → FaultlessFiles old typed linked → SettlesPool linked (length old.files) new → ChangesOptions linked new
     → ArePlainFiles AreGiven (map file_view typed) → HoldsOptions old → ReadsAlike was.but.linked old → ArePlainFiles SaysAndIsSettled (map file_view new.records)
     → HoldsMore earlier old new typed
-holds_more earlier old linked new typed was stored kept recorded indexed also sound names faultless settles changes given held alike done =
+holds_more earlier old linked new typed was kept whole sound names faultless settles changes given held alike done =
     let copied = files_weaker AreGiven AreCopied (λ scope o is. read_copied scope o is.0) (map file_view typed) given in
-    let m = reads_more earlier old linked new typed was stored recorded indexed also sound names faultless settles changes copied alike in
-    let many : length old.files ≡ length old.records = ap length stored.headers ∙ length-map old.records _ in
+    let m = reads_more earlier old linked new typed was whole sound names faultless settles changes copied alike in
     record {
       linking = m.linking;
       of = m.of;
       built = m.built;
-      held = held_after old linked new typed faultless settles changes.settled (linked_sound linked new changes.settled sound) many given
-          (files_weaker (AreHeld old) (AreHeld new) (held_stay earlier _ old new was m.built kept also) (map file_view old.records) held) done;
+      held = held_after old linked new typed faultless settles changes.settled (linked_sound linked new changes.settled sound) given
+          (files_weaker (AreHeld old) (AreHeld new) (held_stay earlier _ old new was m.built kept whole.kept) (map file_view old.records) held) done;
       alike = m.alike;
     }

@@ -31,14 +31,14 @@ settled_type : (linked new : PoolType) (scope : OptionScope) → IsSettled linke
 settled_type linked new scope settled has = subst (λ p. HasType p scope) (sym settled) has
 
 module _ (old linked new : PoolType) (typed : List FileDescriptorProto) (faultless : FaultlessFiles old typed linked) (settles : SettlesPool linked (length old.files) new) (settled : IsSettled linked new)
-    (sound : IsSound linked) (many : length old.files ≡ length old.records) (given : ArePlainFiles AreGiven (map file_view typed)) where
+    (sound : IsSound linked) (given : ArePlainFiles AreGiven (map file_view typed)) where
   -- options as they were given, or as the new pool holds them
   abbrev Either : OptionScope → OptionsContent → Type 0
   Either scope o = AreHeld new scope o ⊎ AreGiven scope o
 
   -- those of the files that were linked are as they were given
   pub new_given : (k : ℕ) (f : FileDescriptorProto) → slice_get linked.records k ≡ Some f → length old.files ≤ k → IsPlainFile AreGiven 99 (file_view f)
-  new_given = batch_says AreGiven old linked typed faultless many given
+  new_given = batch_says AreGiven old linked typed faultless given
 
   one_held : (c : Entity) → Meets (λ file. said AreGiven) c → SettlesToSaid Either linked c
   one_held c meets s o out paths there is settle = inl (λ bytes. inl (settled_type linked new c.scope settled has, stored bytes))

@@ -1,7 +1,6 @@
 -- A batch of files more, of sources or of a set: linking reads of all records what it read of those that
 -- it made.
-use Rattle.std.proofs.Common.{◌≡◌, List, ◌∷◌, map, length, ap, refl, ◌∙◌}
-use Rattle.std.proofs.lemmas.List.{length-map}
+use Rattle.std.proofs.Common.{List, ◌∷◌, map, length, refl, ◌∙◌}
 use Rattle.descriptor_records.specs.Content.{FileContent, OptionsContent, file_view}
 use Rattle.descriptor_records.specs.declared.file.FileDescriptorProto.{FileDescriptorProto}
 use Rattle.linked_records.proofs.Typed.{copied, typed_says}
@@ -17,7 +16,7 @@ use Rattle.reflect_tables.specs.Types.{PoolType}
 use Rattle.settled_view.specs.BuiltBut.{ChangesOptions}
 use Rattle.stored_options.specs.CopiedOptions.{AreCopied, ReadsItsBytes}
 use Rattle.text_view.specs.SourceNames.{HaveOwnNames}
-use Rattle.types_view.specs.Pools.{IsIndexed, IsKept, IsRecorded}
+use Rattle.types_view.specs.Pools.{IsPool}
 use Rattle.types_view.specs.Typed.{IsTyped}
 use Rattle.types_view.proofs.Settled.{typed_more}
 use Rattle.settled_again.proofs.Linked.{linked_names, linked_sound}
@@ -41,18 +40,17 @@ pub record ReadsMore (earlier : List (List FileContent)) (old new : PoolType) (t
   pub built : IsTyped (map file_view (new_files linking.indexes typed) ∷ earlier) new
   pub alike : ReadsAlike built.but.linked new
 
-pub reads_more : (earlier : List (List FileContent)) (old linked new : PoolType) (typed : List FileDescriptorProto) (was : IsTyped earlier old) → IsRecorded old → IsRecorded new → IsIndexed new → IsKept new
+pub reads_more : (earlier : List (List FileContent)) (old linked new : PoolType) (typed : List FileDescriptorProto) (was : IsTyped earlier old) → IsPool new
     → IsSound new → HaveOwnNames new → FaultlessFiles old typed linked → SettlesPool linked (length old.files) new → ChangesOptions linked new
     → ArePlainFiles AreCopied (map file_view typed) → ReadsAlike was.but.linked old → ReadsMore earlier old new typed
-reads_more earlier old linked new typed was recorded stored indexed kept sound names faultless settles changes given alike =
-    let m = typed_more earlier old linked new typed was stored indexed kept faultless changes in
-    let many : length old.files ≡ length old.records = ap length recorded.headers ∙ length-map old.records _ in
+reads_more earlier old linked new typed was whole sound names faultless settles changes given alike =
+    let m = typed_more earlier old linked new typed was whole faultless changes in
     record {
       linking = m.linking;
       of = m.of;
       built = m.typed;
       alike =
           settled_reads_alike linked new (length old.files) settles (linked_sound linked new changes.settled sound) (linked_names linked new changes.settled names)
-          (batch_says AreCopied old linked typed faultless many given)
+          (batch_says AreCopied old linked typed faultless given)
           ∙ read_behind old was.but.linked linked m.typed.but.linked m.more alike m.beside m.behind;
     }

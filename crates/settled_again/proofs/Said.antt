@@ -21,6 +21,7 @@ use Rattle.settled_options.proofs.Said.{no_dot}
 use Rattle.settled_records.proofs.InEntities.{entities_of}
 use Rattle.settled_records.proofs.OfEntities.{Meets}
 use Rattle.settled_records.proofs.PlainOptions.{file_of, said}
+use Rattle.settled_view.proofs.Many.{as_many}
 use Rattle.settled_again.specs.HeldOptions.{HasType}
 
 -- what holds of a list behind so many others holds of what stands there
@@ -51,9 +52,10 @@ type_of_scope p scope s is d type =
     (d.index, subst (λ n. IsFirst (λ m. m.full_name ≡ n) p.messages (Some d.index)) (no_dot scope) found)
 
 -- what is said of options of files that are linked is so of those of the records behind the old ones
-pub batch_says : (Says : OptionScope → OptionsContent → Type 0) (old linked : PoolType) (files : List FileDescriptorProto) → FaultlessFiles old files linked → length old.files ≡ length old.records
+pub batch_says : (Says : OptionScope → OptionsContent → Type 0) (old linked : PoolType) (files : List FileDescriptorProto) → FaultlessFiles old files linked
     → ArePlainFiles Says (map file_view files) → (k : ℕ) (f : FileDescriptorProto) → slice_get linked.records k ≡ Some f → length old.files ≤ k → IsPlainFile Says 99 (file_view f)
-batch_says Says old linked files faultless many plain k f there far =
+batch_says Says old linked files faultless plain k f there far =
     let r = fresh_plain Says old linked files plain faultless in
+    let many = as_many old faultless.0 faultless.1 in
     let long = length-map old.records file_view in
     behind_get (IsPlainFile Says 99) linked.records (map file_view old.records) r.0 r.1 r.2 k f there (omega (arith, many, long, far))

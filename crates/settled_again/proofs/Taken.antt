@@ -32,7 +32,7 @@ use Rattle.stored_options.specs.StoredOptions.{AreStored}
 use Rattle.stored_options.proofs.Again.{no_items}
 use Rattle.stored_options.proofs.Later.{stored_later}
 use Rattle.stored_options.proofs.Refusals.{forbidden_there, stored_not_refused}
-use Rattle.types_view.specs.Pools.{IsIndexed, IsKept, IsRecorded}
+use Rattle.types_view.specs.Pools.{IsKept, IsPool}
 use Rattle.types_view.specs.Typed.{IsTyped}
 use Rattle.settled_again.proofs.Again.{Keeps, entities_again, types_again}
 use Rattle.settled_again.proofs.Said.{type_of_scope}
@@ -72,11 +72,11 @@ module _ (p linked : PoolType) (types : types_of linked ≡ types_of p) (sound :
 -- those of the files of the pool that linking made
 pub not_refused : (batches : List (List FileContent)) (p linked : PoolType) (files typed : List FileDescriptorProto) (t : IsTyped batches p) → IsKept p
     → ArePlainFiles SaysAndIsSettled (map file_view p.records) → HoldsOptions p → ReadsAlike t.but.linked p → ArePlainFiles (λ scope o. AreBytes o.encoded) (map file_view p.records)
-    → map file_view files ≡ map file_view p.records → TypedFiles files typed → FaultlessFiles empty_pool typed linked → IsRecorded linked → IsIndexed linked → IsKept linked → IsSound linked
+    → map file_view files ≡ map file_view p.records → TypedFiles files typed → FaultlessFiles empty_pool typed linked → IsPool linked → IsSound linked
     → ((scope : OptionScope) → CanRead linked scope) → (place : Place) (e : OptionErrorKind) → (e ≡ UndecodableOptions (Some Memory) → ⊥) → RefusesAtPlace linked 0 place e → ⊥
-not_refused batches p linked files typed t kept plain held alike bytes same copied faultless recorded indexed also sound can place e other
+not_refused batches p linked files typed t kept plain held alike bytes same copied faultless whole sound can place e other
     (n, es, f, before, there, (front, back, c, own, ms, is, settles, (o, s, at, has, scope, refused, path)), placed) =
-    let types = types_again batches p linked linked files typed t kept plain alike same copied faultless (itself linked) recorded indexed also in
-    let all = entities_again batches p linked linked files typed t kept plain alike same copied faultless (itself linked) recorded indexed also held bytes (0 + n) f there in
+    let types = types_again batches p linked linked files typed t kept plain alike same copied faultless (itself linked) whole in
+    let all = entities_again batches p linked linked files typed t kept plain alike same copied faultless (itself linked) whole held bytes (0 + n) f there in
     let rest = all_split (Meets (λ file. said (Keeps p))) front (c ∷ back) (subst (AllByRecursion (Meets (λ file. said (Keeps p)))) is all) in
     options_taken p linked types sound can c.scope s o at e scope.pool (rest.1.0 o has) other refused

@@ -29,7 +29,7 @@ ghost use Rattle.settled_view.specs.BuiltBut.{ChangesOptions};
 ghost use Rattle.stored_options.specs.CopiedOptions.{ReadsItsBytes};
 ghost use Rattle.text_view.specs.SourceNames.{HaveOwnNames};
 ghost use Rattle.text_view.specs.Schemas.{schema_of};
-ghost use Rattle.types_view.specs.Pools.{IsIndexed, IsKept, IsRecorded};
+ghost use Rattle.types_view.specs.Pools.{IsKept, IsPool};
 ghost use Rattle.types_view.specs.Typed.{IsTyped};
 
 /// Where files are linked and settled, whether sources give them or a set does, linking reads of
@@ -37,8 +37,7 @@ ghost use Rattle.types_view.specs.Typed.{IsTyped};
 pub fn settled_files_are_read_alike()
     ensures { (earlier : List (List FileContent)) (old linked new : PoolType)
         (files typed : List FileDescriptorProto) (was : IsTyped earlier old)
-        → IsRecorded old → IsRecorded new → IsIndexed new → IsKept new
-        → IsSound new → HaveOwnNames new
+        → IsPool new → IsSound new → HaveOwnNames new
         → ArePlainFiles ReadsItsBytes (map file_view files) → TypedFiles files typed
         → FaultlessFiles old typed linked → SettlesPool linked (length old.files) new
         → ChangesOptions linked new → ReadsAlike was.but.linked old
@@ -52,8 +51,7 @@ pub fn settled_files_are_read_alike()
 pub fn settled_sources_hold_their_options()
     ensures { (earlier : List (List FileContent)) (old linked new : PoolType)
         (files : List FileDescriptorProto) (was : IsTyped earlier old)
-        → IsRecorded old → IsKept old → IsRecorded new → IsIndexed new → IsKept new
-        → IsSound new → HaveOwnNames new
+        → IsKept old → IsPool new → IsSound new → HaveOwnNames new
         → FaultlessFiles old files linked → SettlesPool linked (length old.files) new
         → ChangesOptions linked new → ArePlainFiles AreGiven (map file_view files)
         → HoldsOptions old → ReadsAlike was.but.linked old
@@ -73,23 +71,21 @@ pub fn held_records_link_and_settle_to_themselves()
         → ArePlainFiles (λ scope o. AreBytes o.encoded) (map file_view p.records)
         → map file_view files ≡ map file_view p.records → TypedFiles files typed
         → FaultlessFiles empty_pool typed linked → SettlesPool linked 0 new
-        → ChangesOptions linked new → IsRecorded new → IsIndexed new → IsKept new → IsSound new
+        → ChangesOptions linked new → IsPool new → IsSound new
         → map file_view new.records ≡ map file_view p.records }
     ensures types { (batches : List (List FileContent)) (p linked new : PoolType)
         (files typed : List FileDescriptorProto) (t : IsTyped batches p) → IsKept p
         → ArePlainFiles SaysAndIsSettled (map file_view p.records)
         → ReadsAlike t.but.linked p
         → map file_view files ≡ map file_view p.records → TypedFiles files typed
-        → FaultlessFiles empty_pool typed linked
-        → ChangesOptions linked new → IsRecorded new → IsIndexed new → IsKept new
+        → FaultlessFiles empty_pool typed linked → ChangesOptions linked new → IsPool new
         → types_of new ≡ types_of p }
     ensures names { (batches : List (List FileContent)) (p linked new : PoolType)
         (files typed : List FileDescriptorProto) (t : IsTyped batches p) → IsKept p
         → ArePlainFiles SaysAndIsSettled (map file_view p.records)
         → ReadsAlike t.but.linked p
         → map file_view files ≡ map file_view p.records → TypedFiles files typed
-        → FaultlessFiles empty_pool typed linked
-        → ChangesOptions linked new → IsRecorded new → IsIndexed new → IsKept new
+        → FaultlessFiles empty_pool typed linked → ChangesOptions linked new → IsPool new
         → (decoded : Name → List ℕ → Option Message) → schema_of new decoded ≡ schema_of p decoded }
 {}
 
@@ -102,8 +98,7 @@ pub fn held_options_are_not_refused()
         → HoldsOptions p → ReadsAlike t.but.linked p
         → ArePlainFiles (λ scope o. AreBytes o.encoded) (map file_view p.records)
         → map file_view files ≡ map file_view p.records → TypedFiles files typed
-        → FaultlessFiles empty_pool typed linked
-        → IsRecorded linked → IsIndexed linked → IsKept linked → IsSound linked
+        → FaultlessFiles empty_pool typed linked → IsPool linked → IsSound linked
         → ((scope : OptionScope) → CanRead linked scope)
         → (place : Place) (e : OptionErrorKind) → (e ≡ UndecodableOptions (Some Memory) → ⊥)
         → RefusesAtPlace linked 0 place e → ⊥ }

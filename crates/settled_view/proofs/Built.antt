@@ -6,14 +6,12 @@ use Rattle.reflect_build.specs.Accepted.{FaultlessFiles}
 use Rattle.reflect_build.specs.Refusals.{IsOf, Linking, new_files}
 use Rattle.reflect_pool.specs.Linked.{empty_pool}
 use Rattle.reflect_tables.specs.Types.{PoolType}
-use Rattle.linked_messages.specs.Kept.{IsKept}
-use Rattle.linked_view.specs.Alone.{IsRecorded}
 use Rattle.linked_view.specs.Built.{IsBuilt}
-use Rattle.linked_view.specs.Extended.{IsIndexed}
+use Rattle.linked_view.specs.Pools.{IsPool}
 use Rattle.linked_view.proofs.Together.{added_all, built_more, empty_built}
 use Rattle.schema_view.proofs.Road.{built_linked}
 use Rattle.settled_view.specs.BuiltBut.{IsBuiltBut, ChangesOptions}
-use Rattle.settled_view.proofs.Transfer.{recorded_before, indexed_before, kept_before}
+use Rattle.settled_view.proofs.Transfer.{pool_before}
 use Rattle.settled_view.proofs.Unsettled.{linking, is_before, added, after_records, batch_before, added_settles}
 
 pub itself : (p : PoolType) → ChangesOptions p p
@@ -40,8 +38,7 @@ pub record IsLinkedMore (earlier : List (List FileContent)) (old before made new
   pub linking : Linking
   pub of : IsOf old linking
   pub linked : PoolType
-  pub indexed : IsIndexed linked
-  pub kept : IsKept linked
+  pub whole : IsPool linked
   pub faultless : FaultlessFiles before files linked
   pub built : IsBuilt (map file_view (new_files linking.indexes files) ∷ earlier) linked
   pub settles : ChangesOptions linked new
@@ -50,29 +47,27 @@ pub record IsLinkedMore (earlier : List (List FileContent)) (old before made new
   pub beside : made.records ≡ old.records ++ more
 
 pub linked_more : (earlier : List (List FileContent)) (old linked new : PoolType)
-    (files : List FileDescriptorProto) (is : IsBuiltBut earlier old) → IsRecorded new
-    → IsIndexed new → IsKept new → FaultlessFiles old files linked → ChangesOptions linked new
+    (files : List FileDescriptorProto) (is : IsBuiltBut earlier old) → IsPool new
+    → FaultlessFiles old files linked → ChangesOptions linked new
     → IsLinkedMore earlier old is.linked linked new files
-linked_more earlier old linked new files is recorded index kept (w, of, (names, batch)) settles =
+linked_more earlier old linked new files is pool (w, of, (names, batch)) settles =
     let before = is.linked in
     let ns = new_files w.indexes files in
     let v = linking before old is.settles w of in
     let is_of = is_before before old is.settles w of in
     let whole_batch = batch_before before old is.settles w of ns linked batch in
     let one = added before old is.settles w of ns linked batch in
-    let whole = twice one linked new (added_settles before old is.settles w of ns linked batch) settles
-    in
-    let indexed = indexed_before one new whole index in
-    let parted = kept_before one new whole kept in
+    let changes = twice one linked new (added_settles before old is.settles w of ns linked batch)
+    settles in
+    let whole : IsPool one = pool_before one new changes pool in
     let faultless : FaultlessFiles before files one = (v, is_of, (names, whole_batch)) in
-    let more = (built_more earlier before one files is.built (recorded_before one new whole recorded)
-    indexed parted faultless).2 in
+    let more = (built_more earlier before one files is.built whole.recorded whole.indexed whole.kept
+    faultless).2 in
     record {
       linking = w;
       of = of;
       linked = one;
-      indexed = indexed;
-      kept = parted;
+      whole = whole;
       faultless = faultless;
       built = record {
         named = more.named;
@@ -83,22 +78,22 @@ linked_more earlier old linked new files is recorded index kept (w, of, (names, 
         built = (
           map file_view before.records,
           is.built.built,
-          added_all before one ns v is_of is.built.named names whole_batch parted indexed
+          added_all before one ns v is_of is.built.named names whole_batch whole.kept whole.indexed
               is.built.entries (built_linked earlier (map file_view before.records) is.built.built)
               is.built.extensions is.built.values,
         );
       };
-      settles = whole;
+      settles = changes;
       more = batch.added.records.more;
       behind = refl;
       beside = after_records before old is.settles w of ns linked batch;
     }
 
 pub built_but_more : (earlier : List (List FileContent)) (old linked new : PoolType)
-    (files : List FileDescriptorProto) → IsBuiltBut earlier old → IsRecorded new → IsIndexed new
-    → IsKept new → FaultlessFiles old files linked → ChangesOptions linked new
+    (files : List FileDescriptorProto) → IsBuiltBut earlier old → IsPool new
+    → FaultlessFiles old files linked → ChangesOptions linked new
     → (w : Linking) × IsOf old w
     × IsBuiltBut (map file_view (new_files w.indexes files) ∷ earlier) new
-built_but_more earlier old linked new files is recorded index kept faultless settles =
-    let m = linked_more earlier old linked new files is recorded index kept faultless settles in
+built_but_more earlier old linked new files is pool faultless settles =
+    let m = linked_more earlier old linked new files is pool faultless settles in
     (m.linking, m.of, record { linked = m.linked; built = m.built; settles = m.settles })

@@ -1,4 +1,5 @@
 pub mod Transfer
 pub mod Unsettled
+pub mod Many
 pub mod Built
 pub mod Faults

@@ -10,8 +10,7 @@ use Rattle.reflect_tables.specs.Names.{AreNamed, names_of}
 use Rattle.reflect_tables.specs.Types.{PoolType, ArePooled}
 use Rattle.reflect_tables.specs.Views.{record_file}
 use Rattle.linked_messages.specs.Kept.{IsKept}
-use Rattle.linked_view.specs.Alone.{IsRecorded}
-use Rattle.linked_view.specs.Extended.{IsIndexed}
+use Rattle.linked_view.specs.Pools.{IsPool}
 use Rattle.reflect_build.proofs.Stays.{names_bare}
 use Rattle.settled_view.specs.BuiltBut.{ChangesOptions}
 
@@ -46,19 +45,6 @@ module _ (linked p : PoolType) (s : ChangesOptions linked p) where
   abbrev with_records : PoolType
   with_records = record linked { records = p.records }
 
-  pub recorded_before : IsRecorded p → IsRecorded linked
-  recorded_before h = by (subst IsRecorded s.settled h) where
-    by : IsRecorded with_records → IsRecorded linked
-    by r = record { headers = r.headers ∙ headers_same; imports = r.imports }
-
-  pub indexed_before : IsIndexed p → IsIndexed linked
-  indexed_before h = by (subst IsIndexed s.settled h) where
-    by : IsIndexed with_records → IsIndexed linked
-    by r = record {
-      named = subst (λ k. AreNamed k (names_of linked)) known_same r.named;
-      numbers = r.numbers;
-    }
-
   pub kept_before : IsKept p → IsKept linked
   kept_before h = by (subst IsKept s.settled h) where
     pooled : ArePooled with_records → ArePooled linked
@@ -79,4 +65,19 @@ module _ (linked p : PoolType) (s : ChangesOptions linked p) where
       names = r.names;
       numbers = r.numbers;
       extensions = r.extensions;
+    }
+
+  pub pool_before : IsPool p → IsPool linked
+  pool_before h = by (subst IsPool s.settled h) where
+    by : IsPool with_records → IsPool linked
+    by w = record {
+      recorded = record {
+        headers = w.recorded.headers ∙ headers_same;
+        imports = w.recorded.imports;
+      };
+      indexed = record {
+        named = subst (λ k. AreNamed k (names_of linked)) known_same w.indexed.named;
+        numbers = w.indexed.numbers;
+      };
+      kept = kept_before h.kept;
     }

@@ -58,7 +58,8 @@ with_files rs t = record t {
 
 -- ---- lists
 
-rest_same : {X : Type 0} (xs ys zs : List X) → xs ++ ys ≡ xs ++ zs → ys ≡ zs
+-- what is behind the same list is the same
+pub rest_same : {X : Type 0} (xs ys zs : List X) → xs ++ ys ≡ xs ++ zs → ys ≡ zs
 rest_same xs ys zs e =
     sym (drop_at xs ys (length xs) refl) ∙ ap (drop (length xs)) e
     ∙ drop_at xs zs (length xs) refl

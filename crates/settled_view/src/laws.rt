@@ -15,8 +15,7 @@ ghost use Rattle.schema_view.specs.Lawful.{IsLawful, Meanings, SameFiles, source
 ghost use Rattle.schema_view.specs.Plain.{IsPlainFile};
 ghost use Rattle.schema_view.specs.Views.{view_of};
 ghost use Rattle.linked_messages.specs.Kept.{IsKept};
-ghost use Rattle.linked_view.specs.Alone.{IsRecorded};
-ghost use Rattle.linked_view.specs.Extended.{IsIndexed};
+ghost use Rattle.linked_view.specs.Pools.{IsPool};
 ghost use Rattle.settled_view.specs.BuiltBut.{IsBuiltBut, ChangesOptions};
 
 /// A pool without files is built of no batch. Where files are accepted and options are settled,
@@ -25,8 +24,8 @@ ghost use Rattle.settled_view.specs.BuiltBut.{IsBuiltBut, ChangesOptions};
 pub fn settled_pools_are_built()
     ensures empty { IsBuiltBut [] empty_pool }
     ensures kept { (earlier : List (List FileContent)) (old linked new : PoolType)
-        (files : List FileDescriptorProto) → IsBuiltBut earlier old → IsRecorded new
-        → IsIndexed new → IsKept new → FaultlessFiles old files linked → ChangesOptions linked new
+        (files : List FileDescriptorProto) → IsBuiltBut earlier old → IsPool new
+        → FaultlessFiles old files linked → ChangesOptions linked new
         → (w : Linking) × IsOf old w
         × IsBuiltBut (map file_view (new_files w.indexes files) ∷ earlier) new }
 {}

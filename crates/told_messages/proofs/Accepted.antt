@@ -1,8 +1,8 @@
 -- Where files are accepted, the new pool tells of the messages of the old one and of those of the
 -- files.
-use Rattle.std.proofs.Common.{◌≡◌, ◌+◌, ◌++◌, inl, inr, ℕ, true, List, map, length, drop, drop_at, Some, string_bytes, refl, sym, ap, ◌∙◌, subst, arith, slice_get}
+use Rattle.std.proofs.Common.{◌≡◌, ◌+◌, ◌++◌, inl, inr, ℕ, true, List, map, length, Some, string_bytes, refl, sym, ap, ◌∙◌, subst, arith, slice_get}
 use Rattle.std.specs.List.{Contains}
-use Rattle.std.proofs.lemmas.List.{map-append, length-map}
+use Rattle.std.proofs.lemmas.List.{map-append}
 use Rattle.descriptor_records.specs.Content.{extension_range_view, file_view}
 use Rattle.descriptor_records.specs.declared.file.FileDescriptorProto.{FileDescriptorProto}
 use Rattle.descriptor_records.specs.declared.message.DescriptorProto.{DescriptorProto}
@@ -23,32 +23,28 @@ use Rattle.reflect_pool.specs.AtPaths.{Stands, message_name}
 use Rattle.reflect_pool.specs.Linked.{empty_pool}
 use Rattle.reflect_pool.specs.Records.{message_along}
 use Rattle.reflect_tables.specs.Types.{PoolType, no_type, type_at}
-use Rattle.reflect_tables.specs.Views.{record_file, message_of, pool_of}
+use Rattle.reflect_tables.specs.Views.{message_of, pool_of}
 use Rattle.reflect_tables.specs.declared.stored.StoredMessage.{StoredMessage}
-use Rattle.linked_view.specs.Alone.{IsRecorded}
 use Rattle.linked_view.proofs.Places.{get_contains}
 use Rattle.linked_view.proofs.Shown.{shown_in}
 use Rattle.linked_view.proofs.Walked.{facts_in, seen_body}
 use Rattle.schema_view.specs.Declarations as view
 use Rattle.schema_view.proofs.Lists.{contains_map}
 use Rattle.schema_view.proofs.Renames.{map_same}
+use Rattle.settled_view.proofs.Many.{as_many}
+use Rattle.settled_view.proofs.Unsettled.{rest_same}
 use Rattle.told_messages.specs.ToldMessages.{TellsMessages, ranges_of}
 use Rattle.told_messages.proofs.AlongPaths.{at_path, same_name, same_ranges}
 use Rattle.told_messages.proofs.Keepings.{kept_in, kept_of, written_keep}
 use Rattle.told_messages.proofs.Stays.{TellsType, kept_file, type_more}
 use Rattle.told_messages.proofs.Tellings.{told_alike}
 
-rest_same : {X : Type 0} (xs ys zs : List X) → xs ++ ys ≡ xs ++ zs → ys ≡ zs
-rest_same xs ys zs e =
-    sym (drop_at xs ys (length xs) refl) ∙ ap (drop (length xs)) e
-    ∙ drop_at xs zs (length xs) refl
-
 message_body : (b : Body) → is_message b ≡ true → (own : MessageParts) × (b ≡ of_message own)
 message_body (of_message own) is = (own, refl)
 message_body b is = absurd (cc is)
 
 module _ (old new : PoolType) (ns : List FileDescriptorProto) (w : Linking) (is : IsOf old w)
-    (recorded : IsRecorded old) (batch : FaultlessBatch (with_declared w ns) ns new) where
+    (batch : FaultlessBatch (with_declared w ns) ns new) where
   abbrev all : List Declaration
   all = batch_declarations w.before w.first ns
 
@@ -68,9 +64,7 @@ module _ (old new : PoolType) (ns : List FileDescriptorProto) (w : Linking) (is 
       batch.added.records.records ∙ ap (λ (p : PoolType). p.records ++ more) is.tables
 
   first_is : w.first ≡ length old.records
-  first_is =
-      is.first ∙ ap (λ (l : List _). length l) recorded.headers
-      ∙ length-map old.records record_file
+  first_is = is.first ∙ as_many old w is
 
   more_written : map file_view more ≡ written batch.references (map file_view ns)
   more_written =
@@ -225,10 +219,10 @@ module _ (old new : PoolType) (ns : List FileDescriptorProto) (w : Linking) (is 
         | inr (inr past) ↦ (let le = past.0 in absurd (omega (arith, le, lt)))
       ]
 
-pub accepted_tell : (old linked : PoolType) (files : List FileDescriptorProto) → IsRecorded old
+pub accepted_tell : (old linked : PoolType) (files : List FileDescriptorProto)
     → TellsMessages old → FaultlessFiles old files linked → TellsMessages linked
-accepted_tell old linked files recorded tells (w, is, (names, batch)) =
-    batch_tells old linked (new_files w.indexes files) w is recorded batch tells
+accepted_tell old linked files tells (w, is, (names, batch)) =
+    batch_tells old linked (new_files w.indexes files) w is batch tells
 
 pub empty_tells : TellsMessages empty_pool
 empty_tells i lt = absurd (omega (arith, lt))

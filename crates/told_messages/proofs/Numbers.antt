@@ -15,9 +15,7 @@ use Rattle.reflect_link.specs.Reserved.{bound_of, extension_bounds}
 use Rattle.reflect_pool.specs.Linked.{empty_pool}
 use Rattle.reflect_pool.specs.Records.{message_along}
 use Rattle.reflect_tables.specs.Types.{PoolType, type_at}
-use Rattle.linked_messages.specs.Kept.{IsKept}
-use Rattle.linked_view.specs.Alone.{IsRecorded}
-use Rattle.linked_view.specs.Extended.{IsIndexed}
+use Rattle.linked_view.specs.Pools.{IsPool}
 use Rattle.linked_view.proofs.Together.{built_more, empty_built}
 use Rattle.settled_view.specs.BuiltBut.{ChangesOptions}
 use Rattle.schema_view.specs.Declarations.{MessageFacts, Range, extension_range, of_message}
@@ -72,12 +70,13 @@ one_declared fs linked full r s a b =
     ∙ b.ranges
 
 pub keep_alike : (p q : PoolType) (files : List FileDescriptorProto) → TellsMessages p
-    → TellsMessages q → FaultlessFiles empty_pool files q → IsRecorded q → IsIndexed q → IsKept q
+    → TellsMessages q → FaultlessFiles empty_pool files q → IsPool q
     → map file_view p.records ≡ map file_view q.records → KeepAlike p q
-keep_alike p q files tells also faultless recorded indexed kept same i k lt less names (r, own, custom) =
+keep_alike p q files tells also faultless whole same i k lt less names (r, own, custom) =
     let x = tells i lt in
     let y = also k less in
-    let built = built_more [] empty_pool q files empty_built recorded indexed kept faultless in
+    let built = built_more [] empty_pool q files empty_built whole.recorded whole.indexed whole.kept
+    faultless in
     let linked = built_linked (map file_view (new_files built.0.indexes files) ∷ [])
     (map file_view q.records) built.2.built in
     let told : Declare (map file_view q.records) (name_at q k) x.0 =

@@ -9,15 +9,14 @@ ghost use Rattle.reflect_pool.specs.Linked.{empty_pool};
 ghost use Rattle.reflect_tables.specs.Types.{PoolType};
 ghost use Rattle.settled_view.specs.BuiltBut.{ChangesOptions};
 ghost use Rattle.told_messages.specs.ToldMessages.{KeepAlike, TellsMessages};
-ghost use Rattle.types_view.specs.Pools.{IsIndexed, IsKept, IsRecorded};
+ghost use Rattle.types_view.specs.Pools.{IsPool};
 
 /// The files of a pool declare each of its messages under its full name: so it is without files,
 /// and stays so where files are accepted, and where options are settled.
 pub fn records_declare_their_messages()
     ensures empty { TellsMessages empty_pool }
     ensures accepted { (old linked : PoolType) (files : List FileDescriptorProto)
-        → IsRecorded old → TellsMessages old → FaultlessFiles old files linked
-        → TellsMessages linked }
+        → TellsMessages old → FaultlessFiles old files linked → TellsMessages linked }
     ensures settled { (linked new : PoolType) → ChangesOptions linked new
         → TellsMessages linked → TellsMessages new }
 {}
@@ -27,8 +26,7 @@ pub fn records_declare_their_messages()
 pub fn pools_of_the_same_records_keep_the_same_numbers()
     ensures { (p q : PoolType) (files : List FileDescriptorProto)
         → TellsMessages p → TellsMessages q → FaultlessFiles empty_pool files q
-        → IsRecorded q → IsIndexed q → IsKept q
-        → map file_view p.records ≡ map file_view q.records → KeepAlike p q }
+        → IsPool q → map file_view p.records ≡ map file_view q.records → KeepAlike p q }
 {}
 
 /// And each message keeps its numbers where options are settled.

@@ -15,9 +15,8 @@ use Rattle.schema_view.specs.Views.{view_of}
 use Rattle.schema_view.proofs.Batches.{same_view}
 use Rattle.schema_view.proofs.Road.{built_linked}
 use Rattle.linked_messages.specs.Kept.{IsKept}
-use Rattle.linked_view.specs.Alone.{IsRecorded}
 use Rattle.linked_view.specs.Built.{IsBuilt}
-use Rattle.linked_view.specs.Extended.{IsIndexed}
+use Rattle.linked_view.specs.Pools.{IsPool}
 use Rattle.settled_view.specs.BuiltBut.{ChangesOptions}
 use Rattle.linked_view.proofs.Together.{empty_built}
 use Rattle.settled_view.proofs.Built.{itself, linked_more}
@@ -64,18 +63,18 @@ pub record IsTypedMore (earlier : List (List FileContent)) (old : PoolType)
     pub beside : made.records ≡ old.records ++ more
 
 pub typed_more : (earlier : List (List FileContent)) (old linked new : PoolType)
-    (files : List FileDescriptorProto) (t : IsTyped earlier old) → IsRecorded new → IsIndexed new
-    → IsKept new → FaultlessFiles old files linked → ChangesOptions linked new
+    (files : List FileDescriptorProto) (t : IsTyped earlier old) → IsPool new
+    → FaultlessFiles old files linked → ChangesOptions linked new
     → IsTypedMore earlier old t linked new files
-typed_more earlier old linked new files t recorded index kept faultless settles =
-    let m = linked_more earlier old linked new files t.but recorded index kept faultless settles in
+typed_more earlier old linked new files t whole faultless settles =
+    let m = linked_more earlier old linked new files t.but whole faultless settles in
     record {
       linking = m.linking;
       of = m.of;
       typed = record {
         but = record { linked = m.linked; built = m.built; settles = m.settles };
-        tells = pool_fields t.but.linked m.linked files t.but.built.named m.indexed m.kept t.tells
-            m.faultless;
+        tells = pool_fields t.but.linked m.linked files t.but.built.named m.whole.indexed
+            m.whole.kept t.tells m.faultless;
       };
       more = m.more;
       behind = m.behind;

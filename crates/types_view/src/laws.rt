@@ -12,9 +12,10 @@ ghost use Rattle.schema_view.specs.Plain.{IsPlainFile};
 ghost use Rattle.schema_view.specs.Types as view;
 ghost use Rattle.schema_view.specs.Views.{view_of};
 ghost use Rattle.linked_messages.specs.Kept.{IsKept};
-ghost use Rattle.linked_view.specs.Alone.{IsRecorded, IsWellNamed};
+ghost use Rattle.linked_view.specs.Alone.{IsWellNamed};
 ghost use Rattle.linked_view.specs.Built.{IsBuilt};
 ghost use Rattle.linked_view.specs.Extended.{IsIndexed};
+ghost use Rattle.linked_view.specs.Pools.{IsPool};
 ghost use Rattle.settled_view.specs.BuiltBut.{ChangesOptions};
 ghost use Rattle.types_view.specs.Fields.{TellsFields};
 ghost use Rattle.types_view.specs.Typed.{IsTyped};
@@ -43,8 +44,8 @@ pub fn built_pools_have_the_types_of_their_records()
 pub fn settled_pools_are_typed()
     ensures empty { IsTyped [] empty_pool }
     ensures kept { (earlier : List (List FileContent)) (old linked new : PoolType)
-        (files : List FileDescriptorProto) → IsTyped earlier old → IsRecorded new
-        → IsIndexed new → IsKept new → FaultlessFiles old files linked → ChangesOptions linked new
+        (files : List FileDescriptorProto) → IsTyped earlier old → IsPool new
+        → FaultlessFiles old files linked → ChangesOptions linked new
         → (w : Linking) × IsOf old w
         × IsTyped (map file_view (new_files w.indexes files) ∷ earlier) new }
 {}

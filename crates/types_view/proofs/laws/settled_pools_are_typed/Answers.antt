@@ -5,6 +5,6 @@ pub returns-clause-empty : goal.returns-clause-empty
 returns-clause-empty c = empty_typed
 
 pub returns-clause-kept : goal.returns-clause-kept
-returns-clause-kept c earlier old linked new files t recorded index kept faultless settles =
-    let m = typed_more earlier old linked new files t recorded index kept faultless settles in
+returns-clause-kept c earlier old linked new files t whole faultless settles =
+    let m = typed_more earlier old linked new files t whole faultless settles in
     (m.linking, m.of, m.typed)
