@@ -25,6 +25,7 @@ mod TreeTokens
 mod ToldTokens
 mod ToldNumbers
 mod ToldParts
+mod ToldEntries
 mod Telling
 mod ToldRounds
 mod ReadBytes

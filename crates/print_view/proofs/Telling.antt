@@ -1,18 +1,17 @@
 -- A text with the unknown records of a message tells one of them, or is the text without them.
-use Rattle.std.proofs.Common.{◌≡◌, ◌⊎◌, inl, inr, ℕ, zero, suc, ◌-◌, ◌^◌, ◌<◌, Bool, true, false, true≢false, List, [], ◌∷◌, ◌++◌, map, Option, Some, unwrap_or, refl, sym, ap, ◌∙◌, subst, append_assoc}
+use Rattle.std.proofs.Common.{◌≡◌, ◌⊎◌, inl, inr, ℕ, zero, suc, ◌-◌, Bool, true, false, true≢false, List, [], ◌∷◌, ◌++◌, map, Option, Some, unwrap_or, refl, sym, ap, ◌∙◌, subst, append_assoc}
 use Rattle.std.specs.List.{AllByRecursion}
 use Rattle.protox_lex.specs.Class.{Text}
 use Rattle.reflect_tables.specs.Types.{PoolType, FieldType}
 use Rattle.reflect_tables.specs.Types as types
-use Rattle.reflect_wire.specs.Records.{Payload}
 use Rattle.reflect_pool.specs.Shapes.{holds_list, holds_map}
 use Rattle.reflect_scalar.specs.Keys.{key_view}
 use Rattle.reflect_scalar.specs.declared.map_key.MapKey.{MapKey}
 use Rattle.reflect_message.specs.Held.{unknown_of}
-use Rattle.reflect_message.specs.Known.{entry_field, holds_floats, is_float}
+use Rattle.reflect_message.specs.Known.{entry_field, is_float}
 use Rattle.reflect_message.specs.Messages.{message_in}
 use Rattle.reflect_message.specs.Names.{DynamicMessage, Value}
-use Rattle.print_parts.specs.Entries.{Entry, field, extension, undeclared, extension_entries}
+use Rattle.print_parts.specs.Entries.{Entry, undeclared, extension_entries}
 use Rattle.print_parts.specs.Expands.{Expands}
 use Rattle.reflect_print.specs.MessageTexts.{MayExpand, before_value, any_behind, IsValueText, single_text, message_text, list_text, map_text, IsListText, no_values, more_values, IsPairText, pair_text, IsMapText, no_pairs, more_pairs, IsBracedText, braced, IsItemsText, expanded, listed, IsRowText, no_entries, more_entries, IsEntryText, field_text, extension_text, record_text}
 use Rattle.reflect_print.specs.Named.{Named, named, value_kind, label_of}
@@ -41,10 +40,12 @@ use Rattle.print_view.proofs.Ascending.{IsOwn, as_they_stand, each_other, no_rec
 use Rattle.print_view.proofs.Parts.{HaveValues}
 use Rattle.print_view.proofs.Pieces.{Pair, value_shown, one, bracket_said, name_said, url_said}
 use Rattle.print_view.proofs.Singles.{key_said}
+use Rattle.print_view.proofs.ToldEntries as entries
+use Rattle.print_view.proofs.ToldEntries.{all_fine, held_told, own_fine, records_fine}
 use Rattle.print_view.proofs.ToldNumbers.{record_told}
 use Rattle.print_view.proofs.ToldParts.{all_parts, before_ends, braced_ends, carried, carried_two, list_ends, map_ends, row_ends, shown_pairs, shown_value, small_numbers, telling_options, told_behind_colon, told_ends, told_entry, told_under, value_ends}
 use Rattle.print_view.proofs.ToldTokens.{TellsRecord, Ends, IsPairShown, told_behind, told_braces, told_brackets, told_element, told_item, told_padding, told_pair, told_value}
-use Rattle.print_view.proofs.Values.{own_options, given, given_message, pairs_in, tree_of, EntryFits, Expansion, Printed, Unexpanded, Whole, each_value, entry_text, map_values, no_enum, not_float, one_of, pair_of, pair_said, value_said, values_not_float}
+use Rattle.print_view.proofs.Values.{own_options, given, given_message, pairs_in, tree_of, EntryFits, Expansion, Printed, Unexpanded, Whole, each_value, entry_text, map_values, no_enum, pair_of, pair_said, value_said, values_not_float}
 
 module _ (p skip as_declared expand : Bool) (pool : PoolType) (fields_of : HaveEntryFields pool) (values : HaveValues pool) (decoded : Name → Text → Option Message) (inner : Inner) (payloads x : ℕ) where
   abbrev telling : FormatOptions
@@ -77,45 +78,11 @@ module _ (p skip as_declared expand : Bool) (pool : PoolType) (fields_of : HaveE
   abbrev fits : ℕ → Entry → Type 0
   fits levels e = EntryFits p skip as_declared expand pool fields_of values decoded inner payloads levels e
 
-  -- what is given can be told in a text: behind a name, and, of one value, in a list
   abbrev IsShown : (map_too repeated : Bool) → FieldType → Value → Type 0
-  IsShown true repeated f v = IsGivenShown p (give (values_of pool f) v)
-  IsShown false true f v = IsGivenShown p (give f v)
-  IsShown false false f v = IsValueShown p (value_in (give f v))
+  IsShown b c f v = entries.IsShown p skip as_declared expand pool fields_of values decoded inner payloads b c f v
 
   abbrev Fine : ℕ → Entry → Type 0
-  Fine levels (field q f v) = fits levels (field q f v) × IsPairShown p (pair (field q f v))
-  Fine levels (extension q f v) = fits levels (extension q f v) × IsPairShown p (pair (extension q f v))
-  Fine levels (undeclared r) = r.0 < 2 ^ 64
-
-  own_fine : (levels : ℕ) (e : Entry) → Fine levels e → IsOwn e → fits levels e × IsPairShown p (pair e)
-  own_fine levels (field q f v) fine is = fine
-  own_fine levels (extension q f v) fine is = fine
-  own_fine levels (undeclared r) fine is = absurd is
-
-  one_fine : (levels : ℕ) (e : Entry) → fits levels e → IsPairShown p (pair e) → Fine levels e
-  one_fine levels (field q f v) fit shown = (fit, shown)
-  one_fine levels (extension q f v) fit shown = (fit, shown)
-  one_fine levels (undeclared r) fit shown = absurd fit
-
-  all_fine : (levels : ℕ) (es : List Entry) → AllByRecursion (fits levels) es → AllByRecursion (λ e. IsPairShown p (pair e)) es → AllByRecursion (Fine levels) es
-  all_fine levels [] fit shown = tt
-  all_fine levels (e ∷ es) fit shown = (one_fine levels e fit.0 shown.0, all_fine levels es fit.1 shown.1)
-
-  records_fine : (levels : ℕ) (rs : List (ℕ × Payload)) → AllByRecursion (λ (r : ℕ × Payload). r.0 < 2 ^ 64) rs → AllByRecursion (Fine levels) (map undeclared rs)
-  records_fine levels [] h = tt
-  records_fine levels (r ∷ rs) h = (h.0, records_fine levels rs h.1)
-
-  -- what holds of a field, by whether it is a map, and whether a list
-  held_told : {z : Text} {Own : Type 0} (f : FieldType) (v : Value) (levels : ℕ) (b c : Bool) → holds_map pool f ≡ b → holds_floats pool f ≡ false → ((b c : Bool) → IsWhole b f → FitsAs (Shaped levels) pool f b c v → IsShown b c f v → TellsRecord z ⊎ Own)
-      → FitsAs (Shaped levels) pool f b c v → IsGivenShown p (give (values_of pool f) v) → TellsRecord z ⊎ Own
-  held_told f v levels true c is whole told fit shown = told true c (whole, is) fit shown
-  held_told f v levels false true is whole told fit shown =
-      told false true (not_float p skip as_declared expand pool fields_of values decoded inner payloads f whole is) fit
-      (subst (λ g. IsGivenShown p (give g v)) (one_of p skip as_declared expand pool fields_of values decoded inner payloads f is) shown)
-  held_told f v levels false false is whole told fit shown =
-      told false false (not_float p skip as_declared expand pool fields_of values decoded inner payloads f whole is) fit
-      (shown_value p (give f v) (subst (λ g. IsGivenShown p (give g v)) (one_of p skip as_declared expand pool fields_of values decoded inner payloads f is) shown))
+  Fine levels e = entries.Fine p skip as_declared expand pool fields_of values decoded inner payloads levels e
 
   -- what has to be shown of an Any with so many expansions left, of which all that is printed can be told in a text: its URL can be, and the message that it holds tells a record, or is printed without any
   abbrev pub ToldExpansion : Type 0
@@ -141,7 +108,7 @@ module _ (p skip as_declared expand : Bool) (pool : PoolType) (fields_of : HaveE
     -- entries without unknown records, before a text in which one is told
     entry_before : {i : ℕ} {e : Entry} {y : Text} → IsEntryText own payloads x i e y → (levels : ℕ) → Fine levels e → IsOwn e → (z : Text) → Ends z → TellsRecord z → TellsRecord (y ++ z)
     entry_before {i = i} {e = e} text levels fine is z ends t =
-        let its = own_fine levels e fine is in
+        let its = own_fine p skip as_declared expand pool fields_of values decoded inner payloads levels e fine is in
         subst (λ y. TellsRecord (y ++ z)) (sym (entry_is text levels its.0)) (told_pair p i (pair e) its.1 z ends t)
 
     row_before : {i : ℕ} {braces any : Bool} {es : List Entry} {y : Text} → IsRowText own payloads x i braces any es y → (levels : ℕ) → AllByRecursion (Fine levels) es → AllByRecursion IsOwn es → (z : Text) → (any_behind any es ≡ true → Ends z) → TellsRecord z → TellsRecord (y ++ z)
@@ -232,9 +199,9 @@ module _ (p skip as_declared expand : Bool) (pool : PoolType) (fields_of : HaveE
       items_told {m = m} (listed ds os y rest either declared others first second) (suc levels) there shaped shown =
           let fit = printed levels m there shaped ds declared in
           let each = all_parts (IsPairShown p) pair ds (extension_entries m) (subst (AllByRecursion (IsPairShown p)) fit.2 (shown_pairs p (pairs m) (subst (λ o. AreShown p (or_fields o (joined (between p) (pairs m)))) (unexpanded levels m there shaped either) shown))) in
-          let fields : AllByRecursion (Fine levels) ds = all_fine levels ds fit.0 each.0 in
+          let fields : AllByRecursion (Fine levels) ds = all_fine p skip as_declared expand pool fields_of values decoded inner payloads levels ds fit.0 each.0 in
           let found : AllByRecursion (Fine levels) (extension_entries m ++ map undeclared (unknown_of m)) =
-          all_append (Fine levels) (extension_entries m) (map undeclared (unknown_of m)) (all_fine levels (extension_entries m) fit.1 each.1) (records_fine levels (unknown_of m) (small_numbers 1 (unknown_of m) shaped.ordered.unknown)) in
+          all_append (Fine levels) (extension_entries m) (map undeclared (unknown_of m)) (all_fine p skip as_declared expand pool fields_of values decoded inner payloads levels (extension_entries m) fit.1 each.1) (records_fine p skip as_declared expand pool fields_of values decoded inner payloads levels (unknown_of m) (small_numbers 1 (unknown_of m) shaped.ordered.unknown)) in
           carried_two (row_told first levels fields) (row_told second levels (each_other m shaped.ordered.extensions (unknown_of m) os others (Fine levels) found))
           (told_behind y rest)
           (λ o t. row_before o.0 levels fields o.1 rest (λ e. told_ends rest (row_ends telling payloads x second e) t) t)
@@ -252,11 +219,11 @@ module _ (p skip as_declared expand : Bool) (pool : PoolType) (fields_of : HaveE
 
       entry_told : {i : ℕ} {e : Entry} {z : Text} → IsEntryText telling payloads x i e z → (levels : ℕ) → Fine levels e → TellsRecord z ⊎ (IsEntryText own payloads x i e z × IsOwn e)
       entry_told {i = i} (field_text {pool = q} {f = f} {v = v} y text) levels fine =
-          carried (held_told f v levels (holds_map pool f) (holds_list pool f) refl fine.0.1 (λ b c whole fit shown. value_told text levels f b c (ap (λ q. named q f.kind) fine.0.0) whole fit shown) fine.0.2 fine.1.1)
+          carried (held_told p skip as_declared expand pool fields_of values decoded inner payloads f v levels (holds_map pool f) (holds_list pool f) refl fine.0.1 (λ b c whole fit shown. value_told text levels f b c (ap (λ q. named q f.kind) fine.0.0) whole fit shown) fine.0.2 fine.1.1)
           (λ t. told_under (tree.plain (label_of q f)) (label_of q f) (name_said (label_of q f)) (subst (λ q. IsNameShown (tree.plain (label_of q f))) (sym fine.0.0) fine.1.0) (before_value p (message_in v) ++ y) (value_ends telling payloads x text) (told_behind_colon p (message_in v) y t))
           (λ o. (field_text y o, tt))
       entry_told {i = i} (extension_text {pool = q} {f = f} {v = v} y text) levels fine =
-          carried (held_told f v levels (holds_map pool f) (holds_list pool f) refl fine.0.1 (λ b c whole fit shown. value_told text levels f b c (ap (λ q. named q f.kind) fine.0.0) whole fit shown) fine.0.2 fine.1.1)
+          carried (held_told p skip as_declared expand pool fields_of values decoded inner payloads f v levels (holds_map pool f) (holds_list pool f) refl fine.0.1 (λ b c whole fit shown. value_told text levels f b c (ap (λ q. named q f.kind) fine.0.0) whole fit shown) fine.0.2 fine.1.1)
           (λ t. told_under (tree.extension (parts f.full_name)) (bracketed f.full_name) (bracket_said f.full_name) fine.1.0 (before_value p (message_in v) ++ y) (value_ends telling payloads x text) (told_behind_colon p (message_in v) y t))
           (λ o. (extension_text y o, tt))
       entry_told {i = i} (record_text {r = r} {z = z} text) levels fine = inl (record_told payloads p i r z fine text)
