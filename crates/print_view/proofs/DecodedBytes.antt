@@ -7,7 +7,7 @@ use Rattle.reflect_message.specs.Names.{DynamicMessage}
 use Rattle.reflect_decode.specs.Spelled.{IsSpelled}
 use Rattle.protobuf_model.specs.Values.{nothing}
 use Rattle.protobuf_model.proofs.Reading.{inside_spelled, listed_back}
-use Rattle.text_model.specs.Plain.{IsInBytes}
+use Rattle.text_model.proofs.InBytes.{IsInBytes}
 use Rattle.message_view.specs.Sound.{IsSound}
 use Rattle.message_view.specs.Types.{name_at, types_of}
 use Rattle.message_view.specs.Views.{view}

@@ -12,7 +12,8 @@ use Rattle.protobuf_model.specs.Meaning.{Merge, is_in, payloads, standing, left_
 use Rattle.protobuf_model.proofs.Arranged.{all_append, all_payloads, all_standing}
 use Rattle.protobuf_model.proofs.Typing.{all_put}
 use Rattle.text_laws.specs.SoundTypes.{HaveSmallDefaults}
-use Rattle.text_model.specs.Plain.{AreBytes, HasBytes, HaveBytes, EntriesHaveBytes, IsHeldInBytes, IsInBytes}
+use Rattle.text_model.specs.Plain.{AreBytes}
+use Rattle.text_model.proofs.InBytes.{HasBytes, HaveBytes, EntriesHaveBytes, IsHeldInBytes, IsInBytes}
 use Rattle.print_view.proofs.ReadBytes.{HoldsBytes, EachHoldsBytes, inside_of_small, row_small}
 
 -- ---- single values

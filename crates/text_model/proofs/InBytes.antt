@@ -1,9 +1,32 @@
--- What a plain message holds of bytes is bytes.
+-- Messages that hold bytes where they hold any, as plain ones do.
 use Rattle.std.proofs.Common.{ℕ, Option, None, Some}
 use Rattle.protobuf_model.specs.Values.{Content, single, message, list, dictionary, Contents, no_contents, more_contents, Entries, no_entries, more_entries, Held, content, records, Message}
 use Rattle.protobuf_model.specs.Types.{Name, Kind, Field, Types}
 use Rattle.protobuf_model.specs.Bytes.{type_of}
-use Rattle.text_model.specs.Plain.{IsPlainContent, ArePlainContents, ArePlainEntries, IsPlainHeld, IsPlain, HasBytes, HaveBytes, EntriesHaveBytes, IsHeldInBytes, IsInBytes}
+use Rattle.text_model.specs.Plain.{AreBytes, IsPlainContent, ArePlainContents, ArePlainEntries, IsPlainHeld, IsPlain}
+
+-- all that is of bytes is bytes, at whatever depth, whatever records are kept
+abbrev mutual
+  pub HasBytes : Content → Type 0
+  HasBytes (single v) = AreBytes v
+  HasBytes (message m) = (n : ℕ) → IsHeldInBytes (m n)
+  HasBytes (list cs) = HaveBytes cs
+  HasBytes (dictionary es) = EntriesHaveBytes es
+
+  pub HaveBytes : Contents → Type 0
+  HaveBytes no_contents = Unit {0}
+  HaveBytes (more_contents c cs) = HasBytes c × HaveBytes cs
+
+  pub EntriesHaveBytes : Entries → Type 0
+  EntriesHaveBytes no_entries = Unit {0}
+  EntriesHaveBytes (more_entries key c es) = AreBytes key × HasBytes c × EntriesHaveBytes es
+
+  pub IsHeldInBytes : Held → Type 0
+  IsHeldInBytes (records ps) = Unit {0}
+  IsHeldInBytes (content c) = HasBytes c
+
+abbrev pub IsInBytes : Message → Type 0
+IsInBytes m = (n : ℕ) → IsHeldInBytes (m n)
 
 module _ (types : Types) where
   mutual

@@ -18,13 +18,13 @@ use Rattle.text_model.specs.Tokens.{fields_tokens}
 use Rattle.text_model.specs.Forms.{Form, between}
 use Rattle.text_model.specs.Schemas.{Names, Schema}
 use Rattle.text_model.specs.Printed.{Inner, joined, parts, field_name, lacks_presence, default_given, unset, natural, whole, named, printed_single, value_in, printed_content, printed_list, printed_entries, printed_held, printed_fields, printed_by, printed, printing_order}
-use Rattle.text_model.specs.Plain.{AreBytes, IsPlain, HasBytes, HaveBytes, EntriesHaveBytes, IsHeldInBytes, IsInBytes}
+use Rattle.text_model.specs.Plain.{AreBytes, IsPlain}
 use Rattle.text_model.specs.Expansions.{HasOneForm, HoldsOneForm}
 use Rattle.text_model.specs.Unset.{IsOfKind, HasReadDefault, HaveReadDefaults}
 use Rattle.text_model.specs.Identifiers.{is_identifier, is_full_name, AreIdentifiers, HaveIdentifiers}
 use Rattle.text_model.specs.Rendered.{compact, pretty, text_of}
 use Rattle.text_model.specs.Texts.{Spells}
-use Rattle.text_model.proofs.InBytes.{plain_in_bytes}
+use Rattle.text_model.proofs.InBytes.{HasBytes, HaveBytes, EntriesHaveBytes, IsHeldInBytes, IsInBytes, plain_in_bytes}
 use Rattle.text_model.proofs.Leaves.{IsEnd, Lexed, are_tokens}
 use Rattle.text_model.proofs.Expansions.{IsExpansion, all_printed}
 use Rattle.text_model.proofs.Utf8.{utf8_small}

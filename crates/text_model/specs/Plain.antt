@@ -35,26 +35,3 @@ abbrev mutual
 
 abbrev pub IsPlain : Types → Name → Message → Type 0
 IsPlain types t m = (n : ℕ) → IsPlainHeld types (types t n) (m n)
-
--- all that is of bytes is bytes, at whatever depth, whatever records are kept
-abbrev mutual
-  pub HasBytes : Content → Type 0
-  HasBytes (single v) = AreBytes v
-  HasBytes (message m) = (n : ℕ) → IsHeldInBytes (m n)
-  HasBytes (list cs) = HaveBytes cs
-  HasBytes (dictionary es) = EntriesHaveBytes es
-
-  pub HaveBytes : Contents → Type 0
-  HaveBytes no_contents = Unit {0}
-  HaveBytes (more_contents c cs) = HasBytes c × HaveBytes cs
-
-  pub EntriesHaveBytes : Entries → Type 0
-  EntriesHaveBytes no_entries = Unit {0}
-  EntriesHaveBytes (more_entries key c es) = AreBytes key × HasBytes c × EntriesHaveBytes es
-
-  pub IsHeldInBytes : Held → Type 0
-  IsHeldInBytes (records ps) = Unit {0}
-  IsHeldInBytes (content c) = HasBytes c
-
-abbrev pub IsInBytes : Message → Type 0
-IsInBytes m = (n : ℕ) → IsHeldInBytes (m n)
