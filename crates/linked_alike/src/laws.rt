@@ -1,5 +1,5 @@
-//! Laws of files that differ alone in options that linking does not read, and in locations, each the
-//! contract of a function that does nothing.
+//! Laws of files that differ alone in options that linking does not read, and in locations, each
+//! the contract of a function that does nothing.
 ghost use Rattle.std.specs.Prelude.{◌≡◌, ℕ, List, [], Option, map};
 ghost use Rattle.descriptor_records.specs.Content.{FileContent};
 ghost use Rattle.linked_alike.specs.ReadOptions.{read_file};

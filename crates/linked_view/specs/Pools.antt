@@ -4,8 +4,8 @@ use Rattle.linked_messages.specs.Kept.{IsKept}
 use Rattle.linked_view.specs.Alone.{IsRecorded}
 use Rattle.linked_view.specs.Extended.{IsIndexed}
 
--- its files are those of its records, its names and numbers stand for its entries, and its parts fit
--- together
+-- its files are those of its records, its names and numbers stand for its entries, and its parts
+-- fit together
 pub record IsPool (p : PoolType) : Type 0 where
   pub recorded : IsRecorded p
   pub indexed : IsIndexed p

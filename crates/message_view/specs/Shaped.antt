@@ -26,7 +26,8 @@ use Rattle.reflect_scalar.specs.Singles as held
 use Rattle.reflect_scalar.specs.declared.map_key.MapKey.{MapKey}
 use Rattle.reflect_tables.specs.Types.{FieldType, PoolType}
 
--- a value that suits a field as one value, where `inner` holds of the messages inside
+-- a value that stands for one value of a field: of a scalar any single one, of whatever kind, or a
+-- message of the field's type of which `inner` holds
 pub record FitsOne (inner : DynamicMessage → Type 0) (pool : PoolType) (f : FieldType)
     (v : Value) : Type 0 where
   pub plain : IsScalarType f.kind → (w : held.Single) × (singles.single v ≡ Some w)

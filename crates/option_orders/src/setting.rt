@@ -1,7 +1,7 @@
-//! Laws of what options set, each the contract of a function that does nothing. `SetsAll w (leads_by
-//! lead) t os old new paths` says that the options `os`, one behind another, lead from a message
-//! `old` of the type `t` of the schema `w` to `new`, each along its path; `lead` gives the number that
-//! a part of a name leads to in a message of a type.
+//! Laws of what options set, each the contract of a function that does nothing.
+//! `SetsAll w (leads_by lead) t os old new paths` says that the options `os`, one behind another,
+//! lead from a message `old` of the type `t` of the schema `w` to `new`, each along its path; `lead`
+//! gives the number that a part of a name leads to in a message of a type.
 ghost use Rattle.std.specs.Prelude.{◌≡◌, ℕ, ℤ, List, Bool, true, Option};
 ghost use Rattle.descriptor_records.specs.Content.{NameContent, OptionContent};
 ghost use Rattle.growing_texts.specs.SaysAll.{HaveEntryValues, SaysAll};

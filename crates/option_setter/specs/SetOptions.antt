@@ -1,5 +1,5 @@
--- What setting an option does to a message of options, and why it is refused (protobuf.dev, "Language
--- Guide (proto 2)", Custom Options).
+-- What setting an option does to a message of options, and why it is refused (protobuf.dev,
+-- "Language Guide (proto 2)", Custom Options).
 use Rattle.std.specs.Prelude.{◌≡◌, ◌⊎◌, ◌-◌, ◌^◌, if◌then◌else◌, nat_lt, ℕ, zero, suc, ℤ, pos, List, [], ◌∷◌, true, false, Option, None, Some, length}
 use Rattle.std.specs.Int.{w32, cast_signed}
 use Rattle.descriptor_records.specs.Content.{OptionContent}

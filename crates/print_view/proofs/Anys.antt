@@ -1,19 +1,14 @@
 -- What the printer expands of an Any is what the model does.
-use Rattle.std.proofs.Common.{◌≡◌, inl, inr, ℕ, suc, ◌==◌, ◌&&◌, Bool, true, false, cond, List, [], ◌∷◌, ◌++◌, Option, Some, None, option_map, option_and_then, refl, sym, ap, ap₂, ◌∙◌, subst, arith}
+use Rattle.std.proofs.Common.{◌≡◌, inl, inr, ℕ, suc, ◌==◌, ◌&&◌, Bool, true, false, cond, [], ◌∷◌, ◌++◌, Option, Some, None, option_map, option_and_then, refl, sym, ap, ap₂, ◌∙◌, subst, arith}
 use Rattle.std.proofs.lemmas.Bool.Decides.{eqb_tells}
 use Rattle.protox_lex.specs.Class.{Text}
-use Rattle.reflect_wire.specs.declared.wire_error.WireError.{WireError}
-use Rattle.reflect_wire.specs.declared.wire_error.WireError.TheVariants as errors
 use Rattle.reflect_tables.specs.Types.{PoolType}
 use Rattle.reflect_pool.specs.declared.message.MessageDescriptor.{MessageDescriptor}
 use Rattle.reflect_any.specs.Any.{IsAny}
 use Rattle.reflect_message.specs.Contents.{content_of}
 use Rattle.reflect_message.specs.Names.{DynamicMessage, Value}
-use Rattle.reflect_decode.specs.Refused.{BodyFault}
-use Rattle.reflect_decode.specs.Spelled.{IsSpelled, TellsWhy}
-use Rattle.message_laws.proofs.Excluding.{excluded}
 use Rattle.print_parts.specs.Expands as any
-use Rattle.print_parts.specs.Expands.{Expands, FindsByUrl, IsFault, IsUnder, Lacks, holds, other, refused, without_bytes, without_type, without_url}
+use Rattle.print_parts.specs.Expands.{Expands, FindsByUrl, IsUnder, Lacks, holds, other, refused, without_bytes, without_type, without_url}
 use Rattle.print_parts.specs.Parts.{url_in}
 use Rattle.protobuf_model.specs.Types.{Name}
 use Rattle.protobuf_model.specs.Values.{Message}
@@ -55,24 +50,6 @@ no_slash (b ∷ bs) h =
 found_slash : (front name : Text) → Lacks 47 name → last_slash (front ++ 47 ∷ name) ≡ Some (front, name)
 found_slash [] name h = slash_next 47 name ∙ ap (slash_behind 47 name) (no_slash name h)
 found_slash (b ∷ front) name h = slash_next b (front ++ 47 ∷ name) ∙ ap (slash_behind b (front ++ 47 ∷ name)) (found_slash front name h)
-
--- ---- bytes that are refused
-
-told_excluded : (d : MessageDescriptor) → IsSound d.pool.now → (bytes : List ℕ) (e : WireError) → IsFault e → TellsWhy d bytes e → (m : DynamicMessage) → IsSpelled d bytes m → ⊥
-told_excluded d sound bytes e is why m (rs, spelled, keeps, some, also, fields, (extensions, apart), accepts, ordered) = by e is why where
-  no : (e : WireError) → BodyFault 100 d.pool.now d.index None bytes e → ⊥
-  no e fault = excluded d.pool.now sound.keys 100 d.index bytes e fault rs spelled accepts
-
-  by : (e : WireError) → IsFault e → TellsWhy d bytes e → ⊥
-  by errors.Memory is why = absurd is
-  by errors.Truncated is why = no errors.Truncated why
-  by errors.BadVarint is why = no errors.BadVarint why
-  by errors.BadKey is why = no errors.BadKey why
-  by errors.BadWireType is why = no errors.BadWireType why
-  by errors.EndGroupMismatch is why = no errors.EndGroupMismatch why
-  by errors.TooDeep is why = no errors.TooDeep why
-  by errors.BadUtf8 is why = no errors.BadUtf8 why
-  by errors.TooLong is why = no errors.TooLong why
 
 -- ---- what is expanded
 
@@ -141,7 +118,7 @@ module _ (decoded : Name → Text → Option Message) (m : DynamicMessage) (soun
         known = type_found its_pool name d found;
         bytes = bytes;
         there = bytes_are is b beside ∙ read;
-        decoded = (decodes d there bytes (view body)).1 (body, type, spelled, refl);
+        decoded = (decodes d there bytes).0 body type spelled;
       }),
     )
 
@@ -167,12 +144,6 @@ module _ (decoded : Name → Text → Option Message) (m : DynamicMessage) (soun
     no_bytes None = refl
     no_bytes (Some url) = refl
 
-    not_decoded : (d : MessageDescriptor) → d.pool.now ≡ its_pool → (bytes : Text) (e : WireError) → IsFault e → TellsWhy d bytes e → decoded (name_at its_pool d.index) bytes ≡ None
-    not_decoded d there bytes e fault why = by (decoded (name_at its_pool d.index) bytes) refl where
-      by : (o : Option Message) → decoded (name_at its_pool d.index) bytes ≡ o → o ≡ None
-      by None is = refl
-      by (Some v) is = let s = (decodes d there bytes v).0 is in absurd (told_excluded d (subst IsSound (sym there) sound) bytes e fault why s.0 s.2)
-
     not_held : (url bytes : Text) (d : MessageDescriptor) → FindsByUrl its_pool url (Some d) → decoded (name_at its_pool d.index) bytes ≡ None → of_parts true url (Some bytes) ≡ None
     not_held url bytes d (inl none) undecoded = absurd (cc none.1)
     not_held url bytes d (inr (front, name, is, lacks, found)) undecoded =
@@ -190,7 +161,7 @@ module _ (decoded : Name → Text → Option Message) (m : DynamicMessage) (soun
         ∙ ap (λ o. cond (form.expands && true) o None) (no_bytes (last_slash (text_in (view m 1)))) ∙ never (form.expands && true)
     none_of is (refused u b url bytes d e under told finds there beside read fault why) =
         ap₂ (of_parts true) (url_is is u under ∙ ap url_in told) (bytes_are is b beside ∙ read)
-        ∙ not_held url bytes d finds (not_decoded d there bytes e fault why)
+        ∙ not_held url bytes d finds ((decodes d there bytes).1 e fault why)
 
     -- nothing is, where the printer finds nothing
     pub not_expanded : Expands m None → in_any form w inner t (view m) ≡ None

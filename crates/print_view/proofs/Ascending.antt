@@ -20,15 +20,11 @@ use Rattle.print_view.proofs.Counting.{rise_ends}
 use Rattle.print_view.proofs.Entries.{passes}
 use Rattle.print_view.proofs.Sorting.{Rises, Within, all_found, all_sorted, in_place, of_number, sorted_is}
 
--- a field or an extension
-abbrev pub IsOwn : Entry → Type 0
-IsOwn (undeclared r) = ⊥
-IsOwn _ = Unit {0}
-
-no_more : (es : List Entry) (us : List (ℕ × Payload)) → AllByRecursion IsOwn (es ++ map undeclared us) → us ≡ []
-no_more [] [] h = refl
-no_more [] (u ∷ us) h = absurd h.0
-no_more (e ∷ es) us h = no_more es us h.1
+-- of entries of which none is a record those are all that stand before the records
+no_more : (P : Entry → Type 0) → ((r : ℕ × Payload) → P (undeclared r) → ⊥) → (es : List Entry) (us : List (ℕ × Payload)) → AllByRecursion P (es ++ map undeclared us) → AllByRecursion P es × (us ≡ [])
+no_more P excludes [] [] h = (tt, refl)
+no_more P excludes [] (u ∷ us) h = absurd (excludes u h.0)
+no_more P excludes (e ∷ es) us h = let rest = no_more P excludes es us h.1 in ((h.0, rest.0), rest.1)
 
 abbrev Ascends : ℕ → ℕ → List Entry → Type 0
 Ascends low high es = Rises number_of es × Within number_of low high es
@@ -98,9 +94,9 @@ module _ (m : DynamicMessage) where
     pub each_other : (P : Entry → Type 0) → AllByRecursion P found → AllByRecursion P os
     each_other P h = all_sorted number_of at (λ n. refl) found os sorted.ascend sorted.same P h
 
-    -- there are no records where none are printed
-    pub no_records : AllByRecursion IsOwn os → us ≡ []
-    no_records own = no_more (extension_entries m) us (all_found number_of at (λ n. refl) found os sorted.ascend sorted.same IsOwn own)
+    -- there are no records where none are printed, and of all extensions is so what is so of those that are printed
+    pub no_records : (P : Entry → Type 0) → ((r : ℕ × Payload) → P (undeclared r) → ⊥) → AllByRecursion P os → AllByRecursion P (extension_entries m) × (us ≡ [])
+    no_records P excludes all = no_more P excludes (extension_entries m) us (all_found number_of at (λ n. refl) found os sorted.ascend sorted.same P all)
 
     -- so the extensions are printed as they stand
     pub as_they_stand : us ≡ [] → os ≡ extension_entries m

@@ -19,7 +19,6 @@ use Rattle.text_model.specs.Printed.{Inner, default_given, lacks_presence, print
 use Rattle.text_model.specs.Tree as tree
 use Rattle.text_model.specs.Tree.{Given}
 use Rattle.message_view.specs.Singles.{single_view}
-use Rattle.message_view.specs.Sound.{HaveEntryFields}
 use Rattle.message_view.specs.Types.{default_of, entry_part, key_of, kind_in, label_of, part_of, values_of}
 use Rattle.message_view.specs.Views.{content_view, is_set}
 use Rattle.message_view.proofs.Entries.{Sort, plain, floating, message_type, sort_of, some_default, default_is}
@@ -27,10 +26,10 @@ use Rattle.message_view.proofs.Seen.{single_seen, message_seen, list_seen, map_s
 use Rattle.message_view.specs.Shaped.{FitsAs, FitsOne, Shaped}
 use Rattle.text_view.specs.Names.{name_in}
 use Rattle.text_view.proofs.Set.{list_repeats, map_repeats}
-use Rattle.print_view.proofs.Parts.{HaveValues}
 use Rattle.text_view.specs.Schemas.{schema_of}
 use Rattle.print_view.specs.Forms.{form_of}
-use Rattle.print_view.proofs.Values.{own_options, given}
+use Rattle.print_view.proofs.Printer.{Printer, own_of}
+use Rattle.print_view.proofs.Values.{given}
 
 no_message_type : (t : KindType) → IsScalarType t → IsMessageType t → ⊥
 no_message_type (types.message i) s m = s
@@ -49,9 +48,19 @@ single_field pool f is list = by (is_repeated f.cardinality) (sym (ap (λ b. is_
   by true e = absurd (cc e)
   by false e = refl
 
-module _ (p skip as_declared expand : Bool) (pool : PoolType) (fields_of : HaveEntryFields pool) (values : HaveValues pool) (decoded : Name → Text → Option Message) (inner : Inner) (payloads : ℕ) where
+module _ (printer : Printer) where
+  -- its parts
+  abbrev pool : PoolType
+  pool = printer.pool
+
+  abbrev decoded : Name → Text → Option Message
+  decoded = printer.decoded
+
+  abbrev inner : Inner
+  inner = printer.inner
+
   abbrev give : FieldType → Value → Given
-  give f v = given p skip as_declared expand pool fields_of values decoded inner payloads (values_of pool f) v
+  give f v = given printer (values_of pool f) v
 
   -- what the model prints of the field's default
   abbrev pub standing : FieldType → Given
@@ -84,15 +93,15 @@ module _ (p skip as_declared expand : Bool) (pool : PoolType) (fields_of : HaveE
   -- what is given to a field of one value
   one_given : (f : FieldType) (v : Value) (s : Single) → holds_map pool f ≡ false → content_view v ≡ model.single s → give f v ≡ tree.one_scalar (printed_single (name_in pool f.kind) s)
   one_given f v s is seen =
-      ap (λ b. given p skip as_declared expand pool fields_of values decoded inner payloads (cond b (entry_part pool f 2) f) v) is
-      ∙ ap (λ c. printed_content (form_of (own_options p skip as_declared expand)) (schema_of pool decoded) inner (name_in pool f.kind) (kind_in pool f.group f.kind) c) seen
+      ap (λ b. given printer (cond b (entry_part pool f 2) f) v) is
+      ∙ ap (λ c. printed_content (form_of (own_of printer)) (schema_of pool decoded) inner (name_in pool f.kind) (kind_in pool f.group f.kind) c) seen
 
   -- and to one of no values
   none_given : (f : FieldType) (v : Value) → content_view v ≡ model.list model.no_contents → give f v ≡ tree.listed tree.no_values
-  none_given f v seen = ap (λ c. printed_content (form_of (own_options p skip as_declared expand)) (schema_of pool decoded) inner (name_in pool (values_of pool f).kind) (kind_in pool (values_of pool f).group (values_of pool f).kind) c) seen
+  none_given f v seen = ap (λ c. printed_content (form_of (own_of printer)) (schema_of pool decoded) inner (name_in pool (values_of pool f).kind) (kind_in pool (values_of pool f).group (values_of pool f).kind) c) seen
 
   no_entries_given : (f : FieldType) (v : Value) → content_view v ≡ model.dictionary model.no_entries → give f v ≡ tree.listed tree.no_values
-  no_entries_given f v seen = ap (λ c. printed_content (form_of (own_options p skip as_declared expand)) (schema_of pool decoded) inner (name_in pool (values_of pool f).kind) (kind_in pool (values_of pool f).group (values_of pool f).kind) c) seen
+  no_entries_given f v seen = ap (λ c. printed_content (form_of (own_of printer)) (schema_of pool decoded) inner (name_in pool (values_of pool f).kind) (kind_in pool (values_of pool f).group (values_of pool f).kind) c) seen
 
   abbrev pub Stands : ℕ → FieldType → Value → Type 0
   Stands levels f v = (give f v ≡ standing f) × FitsAs (Shaped levels) pool f (holds_map pool f) (holds_list pool f) v

@@ -58,7 +58,8 @@ use Rattle.print_view.proofs.Defaults.{standing, lacks_same, default_stands, uns
 use Rattle.print_view.proofs.Parts.{HaveValues}
 use Rattle.print_view.proofs.Counting.{same_numbers, filtered, shown, under, each, all_numbers}
 use Rattle.print_view.proofs.Pieces.{Pair}
-use Rattle.print_view.proofs.Values.{own_options, given, pairs_in, EntryFits, pair_of}
+use Rattle.print_view.proofs.Printer.{Printer, own_options}
+use Rattle.print_view.proofs.Values.{given, pairs_in, EntryFits, pair_of}
 
 -- ---- which fields are set
 
@@ -86,7 +87,7 @@ module _ (pool : PoolType) (inner : DynamicMessage → Type 0) where
         ap (forms.is_set pool f) (message_form_seen v m.0 m.1) ∙ or_true f.presence ∙ sym (ap (views.is_set pool f) (message_seen v m.0 m.1))
 
   -- a field is set by the program's test exactly if it is by the model's
-  set_same : (f : FieldType) (v : Value) → holds_floats pool f ≡ false → (is_repeated f.cardinality ≡ true → f.presence ≡ false) → FitsAs inner pool f (holds_map pool f) (holds_list pool f) v → Set f v
+  pub set_same : (f : FieldType) (v : Value) → holds_floats pool f ≡ false → (is_repeated f.cardinality ≡ true → f.presence ≡ false) → FitsAs inner pool f (holds_map pool f) (holds_list pool f) v → Set f v
   set_same f v whole repeats fits = by (holds_map pool f) refl (holds_list pool f) refl fits where
     by : (b : Bool) → holds_map pool f ≡ b → (c : Bool) → holds_list pool f ≡ c → FitsAs inner pool f b c v → Set f v
     by true e c k h = map_set pool f v h.0 (repeats (map_repeats pool f e)) h.1
@@ -129,6 +130,9 @@ module _ (p skip as_declared expand : Bool) (m : DynamicMessage) (present : skip
   abbrev options : FormatOptions
   options = own_options p skip as_declared expand
 
+  abbrev printer : Printer
+  printer = record { pretty = p; skip = skip; as_declared = as_declared; expand = expand; pool = pool; fields_of = fields_have; values = values; decoded = decoded; inner = inner; payloads = rounds }
+
   abbrev own : Form
   own = form_of options
 
@@ -136,13 +140,13 @@ module _ (p skip as_declared expand : Bool) (m : DynamicMessage) (present : skip
   schema = schema_of pool decoded
 
   abbrev give : FieldType → Value → Given
-  give f v = given p skip as_declared expand pool fields_have values decoded inner rounds (values_of pool f) v
+  give f v = given printer (values_of pool f) v
 
   abbrev pair : Entry → Pair
-  pair e = pair_of p skip as_declared expand pool fields_have values decoded inner rounds e
+  pair e = pair_of printer e
 
   abbrev fits : ℕ → Entry → Type 0
-  fits n e = EntryFits p skip as_declared expand pool fields_have values decoded inner rounds n e
+  fits n e = EntryFits printer n e
 
   -- ---- what stands there suits
 
@@ -288,7 +292,7 @@ module _ (p skip as_declared expand : Bool) (m : DynamicMessage) (present : skip
 
   -- what is printed of a field that is not set
   abbrev stand : FieldType → Given
-  stand f = standing p skip as_declared expand pool fields_have values decoded inner rounds f
+  stand f = standing printer f
 
   abbrev filled : FieldType → Pair
   filled f = (tree.plain (label_of pool f), stand f)
@@ -470,7 +474,7 @@ module _ (p skip as_declared expand : Bool) (m : DynamicMessage) (present : skip
           → Behind → Put (not skip && not f.presence) es → Ends l
       unset there whole l is gives rest put = by (not skip && not f.presence) refl put where
         filled_so : l ≡ cond (not skip && not f.presence) (filled f ∷ []) []
-        filled_so = is ∙ ap (λ b. cond (not skip && b) (filled f ∷ []) []) (lacks_same p skip as_declared expand pool fields_have values decoded inner rounds f (lists.unset i f.number f (inl there)))
+        filled_so = is ∙ ap (λ b. cond (not skip && b) (filled f ∷ []) []) (lacks_same printer f (lists.unset i f.number f (inl there)))
 
         off : (b : Bool) → not b ≡ true → b ≡ false
         off true e = absurd (cc e)
@@ -490,7 +494,7 @@ module _ (p skip as_declared expand : Bool) (m : DynamicMessage) (present : skip
           → Put ((not skip && not f.presence) || is_held pool f v) es → Ends (pairs_at (Some f) v)
       within there whole None at rest put =
           unset there whole (fill f) refl
-          (λ absent shows w held. default_stands p skip as_declared expand pool fields_have values decoded inner rounds levels f w (first_off (is_float f.kind) (holds_map pool f && has_floats pool f.kind) whole)
+          (λ absent shows w held. default_stands printer levels f w (first_off (is_float f.kind) (holds_map pool f && has_floats pool f.kind) whole)
           (λ type single. true≢false (sym (present shows i f.number f there type single) ∙ absent))
           (subst (λ o. IsHeldOrDefault pool f o w) at held))
           rest (subst (λ b. Put b es) (or_false (not skip && not f.presence)) put)
@@ -511,7 +515,7 @@ module _ (p skip as_declared expand : Bool) (m : DynamicMessage) (present : skip
             by false set put =
                 unset there whole (pairs_at (Some f) (Some v)) (ap (λ b. cond b ((tree.plain (label_of pool f), give f v) ∷ []) (fill f)) set)
                 (λ absent shows w held. (
-                  ap (give f) (held_one w held) ∙ unset_stands p skip as_declared expand pool fields_have values decoded inner rounds levels f v (first_off (is_float f.kind) (holds_map pool f && has_floats pool f.kind) whole) set fit,
+                  ap (give f) (held_one w held) ∙ unset_stands printer levels f v (first_off (is_float f.kind) (holds_map pool f && has_floats pool f.kind) whole) set fit,
                   subst (FitsAs (Shaped levels) pool f (holds_map pool f) (holds_list pool f)) (sym (held_one w held)) fit,
                 ))
                 rest (subst (λ b. Put b es) (or_false (not skip && not f.presence)) put)
@@ -580,7 +584,7 @@ module _ (p skip as_declared expand : Bool) (m : DynamicMessage) (present : skip
       subst (Arranged true) (sym same) (done.0 ∙ ap (map pair) (passing_all found), done.1)
 
   pub all_printed : (ds : List Entry) → AreDeclared options m ds → AllByRecursion (fits levels) ds × AllByRecursion (fits levels) (extension_entries m)
-      × (pairs_in p skip as_declared expand pool fields_have values decoded inner rounds m ≡ map pair ds ++ map pair (extension_entries m))
+      × (pairs_in printer m ≡ map pair ds ++ map pair (extension_entries m))
   all_printed ds are =
       let all = arranged as_declared skip refl ds are in (
         all.1,

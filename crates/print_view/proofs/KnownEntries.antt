@@ -20,12 +20,12 @@ use Rattle.text_model.specs.Plain.{IsPlain, IsPlainHeld}
 use Rattle.message_view.specs.Shaped.{IsShaped, Shaped}
 use Rattle.message_view.specs.Sound.{IsSound}
 use Rattle.message_view.specs.Types.{either_field, field_at, field_of, name_at, oneof_at, types_of}
-use Rattle.message_view.specs.Views.{content_view, contents_view, held_either, held_in, is_set, view}
+use Rattle.message_view.specs.Views.{content_view, held_either, held_in, is_set, view}
 use Rattle.message_view.proofs.Accepting.{known_whole}
 use Rattle.message_view.proofs.Fields.{by_number}
-use Rattle.message_view.proofs.Seen.{value_at-view, view_opened}
 use Rattle.message_view.proofs.Sound.{named}
 use Rattle.text_view.specs.Schemas.{schema_of}
+use Rattle.text_view.proofs.Puts.{seen_at}
 use Rattle.print_view.specs.Forms.{HaveMessagePresence}
 use Rattle.print_view.proofs.Ascending.{as_they_stand}
 use Rattle.print_view.proofs.AllKnown.{AllKnown, Wholly, each_unset, value_known}
@@ -63,13 +63,6 @@ module _ (options : FormatOptions) (decoded : Name → Text → Option Message) 
   type_is : (n : ℕ) → types_of pool (name_at pool i) n ≡ field_at pool i n
   type_is n = named pool sound.names i n m.descriptor.in_range
 
-  -- what is seen under a number, by the field and the extension that have it
-  seen_at : (n : ℕ) → view m n ≡ held_either pool (known_field pool i n) (known_extension pool i n) (option_map content_view (value_at (fields_of m) n)) (option_map content_view (value_at (extensions_of m) n)) (payloads n (unknown_of m))
-  seen_at n =
-      ap (λ (s : Message). s n) (view_opened m)
-      ∙ ap (λ a. held_either pool (known_field pool i n) (known_extension pool i n) a (value_at (contents_view (extensions_of m)) n) (payloads n (unknown_of m))) (value_at-view (fields_of m) n)
-      ∙ ap (λ b. held_either pool (known_field pool i n) (known_extension pool i n) (option_map content_view (value_at (fields_of m) n)) b (payloads n (unknown_of m))) (value_at-view (extensions_of m) n)
-
   -- ---- what fields and extensions hold
 
   inside : (n : ℕ) (f : Field) (c : Content) → field_at pool i n ≡ Some f → view m n ≡ content c → EachContent Q f.part.kind c
@@ -90,7 +83,7 @@ module _ (options : FormatOptions) (decoded : Name → Text → Option Message) 
       let n = f.number in
       let fit = field_fits m levels shaped n v f at there in
       let holds : view m n ≡ held_in pool f (Some (content_view v)) =
-      seen_at n
+      seen_at m n
       ∙ ap (λ o. held_either pool o (known_extension pool i n) (option_map content_view (value_at (fields_of m) n)) (option_map content_view (value_at (extensions_of m) n)) (payloads n (unknown_of m))) there
       ∙ ap (λ o. held_in pool f (option_map content_view o)) at in
       value_known options decoded pool sound.entries x levels f v fit.0 fit.1
@@ -100,7 +93,7 @@ module _ (options : FormatOptions) (decoded : Name → Text → Option Message) 
   extension_known n f v none there at =
       let fit = extension_fits m levels shaped n v f at none there in
       let holds : view m n ≡ held_in pool f (Some (content_view v)) =
-      seen_at n
+      seen_at m n
       ∙ ap (λ o. held_either pool o (known_extension pool i n) (option_map content_view (value_at (fields_of m) n)) (option_map content_view (value_at (extensions_of m) n)) (payloads n (unknown_of m))) none
       ∙ ap (λ o. held_either pool None o (option_map content_view (value_at (fields_of m) n)) (option_map content_view (value_at (extensions_of m) n)) (payloads n (unknown_of m))) there
       ∙ ap (λ o. held_in pool f (option_map content_view o)) at in
@@ -121,7 +114,7 @@ module _ (options : FormatOptions) (decoded : Name → Text → Option Message) 
         neither : (n : ℕ) → known_field pool i n ≡ None → known_extension pool i n ≡ None → payloads n (unknown_of m) ≡ []
         neither n none also =
             subst (IsPlainHeld (types_of pool) (types_of pool (name_at pool i) n))
-            (seen_at n
+            (seen_at m n
             ∙ ap (λ o. held_either pool o (known_extension pool i n) (option_map content_view (value_at (fields_of m) n)) (option_map content_view (value_at (extensions_of m) n)) (payloads n (unknown_of m))) none
             ∙ ap (λ o. held_either pool None o (option_map content_view (value_at (fields_of m) n)) (option_map content_view (value_at (extensions_of m) n)) (payloads n (unknown_of m))) also)
             (known.0 n)

@@ -1,4 +1,5 @@
 pub mod Parts
+mod Printer
 mod Counting
 mod Sorting
 mod Contents
@@ -17,6 +18,10 @@ pub mod Printed
 mod Back
 mod Ascending
 mod Inside
+mod HeldAlone
+mod KeepsNone
+mod NoneSkipped
+mod Gathered
 mod AllKnown
 mod KnownEntries
 mod Untold
@@ -31,4 +36,14 @@ mod ToldRounds
 mod ReadBytes
 mod MeantBytes
 mod DecodedBytes
+mod StandsIn
+mod Suited
 mod Refused
+mod Deciding
+mod DecidingFronts
+mod DecidingSpelled
+mod DecidingScalars
+mod DecidingKinds
+mod DecidingRows
+mod DecidingTaken
+mod OneDecoder

@@ -20,7 +20,7 @@ use Rattle.message_view.proofs.Seen.{view_opened}
 use Rattle.message_view.proofs.Sound.{named}
 
 -- what is seen of a message is what the records mean that the bytes spell
-spelled_means : (d : MessageDescriptor) → IsSound d.pool.now → (bytes : List ℕ) (m : DynamicMessage) → m.descriptor ≡ d → IsSpelled d bytes m
+pub spelled_means : (d : MessageDescriptor) → IsSound d.pool.now → (bytes : List ℕ) (m : DynamicMessage) → m.descriptor ≡ d → IsSpelled d bytes m
     → (rs : List (ℕ × Payload)) × SpellsRecords 100 bytes (records_of rs) × (meaning 100 (types_of d.pool.now) (name_at d.pool.now d.index) nothing rs ≡ view m)
 spelled_means d sound bytes m type (rs, spelled, keeps, some, also, fields, (extensions, apart), accepts, ordered) =
     let pool = d.pool.now in

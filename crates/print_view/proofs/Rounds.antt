@@ -26,17 +26,21 @@ use Rattle.print_view.proofs.Anys.{expanded_in, held_at, not_expanded}
 use Rattle.print_view.proofs.Entries.{all_printed}
 use Rattle.print_view.proofs.Parts.{HaveValues, have_values}
 use Rattle.print_view.proofs.Pieces.{value_shown}
-use Rattle.print_view.proofs.Values.{own_options, EntryFits, Expansion, Printed, ShowsItems, Unexpanded, braced_text, items_said, pair_of, pairs_in}
+use Rattle.print_view.proofs.Printer.{Printer, own_options}
+use Rattle.print_view.proofs.Values.{EntryFits, Expansion, Printed, ShowsItems, Unexpanded, braced_text, items_said, pair_of, pairs_in}
 
 module _ (p skip as_declared expand : Bool) (decoded : Name → Text → Option Message) (inner : Inner) (rounds : ℕ) where
+  abbrev by_pool : (pool : PoolType) → HaveEntryFields pool → HaveValues pool → Printer
+  by_pool pool fields values = record { pretty = p; skip = skip; as_declared = as_declared; expand = expand; pool = pool; fields_of = fields; values = values; decoded = decoded; inner = inner; payloads = rounds }
+
   -- what is printed of a message, by the pool that it is of
   abbrev Each : ℕ → DynamicMessage → List Entry → (pool : PoolType) → HaveEntryFields pool → HaveValues pool → Type 0
   Each levels m ds pool fields values =
-      AllByRecursion (EntryFits p skip as_declared expand pool fields values decoded inner rounds levels) ds
-      × AllByRecursion (EntryFits p skip as_declared expand pool fields values decoded inner rounds levels) (extension_entries m)
-      × (pairs_in p skip as_declared expand pool fields values decoded inner rounds m ≡ map (pair_of p skip as_declared expand pool fields values decoded inner rounds) ds ++ map (pair_of p skip as_declared expand pool fields values decoded inner rounds) (extension_entries m))
+      AllByRecursion (EntryFits (by_pool pool fields values) levels) ds
+      × AllByRecursion (EntryFits (by_pool pool fields values) levels) (extension_entries m)
+      × (pairs_in (by_pool pool fields values) m ≡ map (pair_of (by_pool pool fields values)) ds ++ map (pair_of (by_pool pool fields values)) (extension_entries m))
 
-  each_printed : (pool : PoolType) → (skip ≡ false → HaveMessagePresence pool) → AreApart pool → HaveFieldNumbers pool → (fields : HaveEntryFields pool) (values : HaveValues pool) → HaveLists pool → HaveNames pool → Printed p skip as_declared expand pool fields values decoded inner rounds
+  each_printed : (pool : PoolType) → (skip ≡ false → HaveMessagePresence pool) → AreApart pool → HaveFieldNumbers pool → (fields : HaveEntryFields pool) (values : HaveValues pool) → HaveLists pool → HaveNames pool → Printed (by_pool pool fields values)
   each_printed pool told apart ranged fields values lists names levels m there shaped ds are =
       subst (λ q. (skip ≡ false → HaveMessagePresence q) → AreApart q → HaveFieldNumbers q → (f : HaveEntryFields q) (v : HaveValues q) → HaveLists q → HaveNames q → Each levels m ds q f v) there
       (λ s a r f v l n. all_printed p skip as_declared expand m s a r f v l n decoded inner rounds levels shaped ds are) told apart ranged fields values lists names
@@ -63,11 +67,15 @@ module _ (p skip as_declared expand : Bool) (pool : PoolType) (sound : IsSound p
   inner_at zero = λ t m. None
   inner_at (suc more) = λ t m. Some (printed_within more own w t m)
 
+  -- so the printer
+  abbrev pub printer_at : ℕ → Printer
+  printer_at x = record { pretty = p; skip = skip; as_declared = as_declared; expand = expand; pool = pool; fields_of = sound.entries; values = values; decoded = decoded; inner = inner_at x; payloads = 100 }
+
   pub within_is : (x : ℕ) (t : Name) (m : Message) → printed_within x own w t m ≡ printed_by own w (inner_at x) t m
   within_is zero t m = refl
   within_is (suc more) t m = refl
 
-  pub printed_at : (x : ℕ) → Printed p skip as_declared expand pool sound.entries values decoded (inner_at x) 100
+  pub printed_at : (x : ℕ) → Printed (printer_at x)
   printed_at x = each_printed p skip as_declared expand decoded (inner_at x) 100 pool told sound.apart sound.numbers sound.entries values sound.lists sound.names
 
   -- the Any is none that is expanded
@@ -76,7 +84,7 @@ module _ (p skip as_declared expand : Bool) (pool : PoolType) (sound : IsSound p
       subst (λ q. IsSound q → HasUsualAny q → DecodesIn q decoded → in_any own (schema_of q decoded) inner (name_at q m.descriptor.index) (view m) ≡ None) there
       (λ s u d. not_expanded decoded m s u d levels shaped own inner none) sound (expandable e).1 (expandable e).0
 
-  pub unexpanded_at : (x : ℕ) → Unexpanded p skip as_declared expand pool sound.entries values decoded (inner_at x) 100 x
+  pub unexpanded_at : (x : ℕ) → Unexpanded (printer_at x) x
   unexpanded_at zero levels m there shaped either = no_expansion own w (inner_at zero) (name_at pool m.descriptor.index) (view m) (λ fs e. cc e.inside)
   unexpanded_at (suc more) levels m there shaped either = by expand refl either where
     by : (e : Bool) → expand ≡ e → ((MayExpand options (suc more) → ⊥) ⊎ Expands m None) → in_any own w (inner_at (suc more)) (name_at pool m.descriptor.index) (view m) ≡ None
@@ -93,13 +101,13 @@ module _ (p skip as_declared expand : Bool) (pool : PoolType) (sound : IsSound p
       (h.0, h.1, h.2, h.3, expanded_in own w inner (name_at pool m.descriptor.index) (view m) h.0 (name_at pool body.descriptor.index) (view body) e h.4)
 
   -- a message in braces, if expansions are as the model prints them
-  in_braces_at : (x : ℕ) → Expansion p skip as_declared expand pool sound.entries values decoded (inner_at x) 100 x → (i : ℕ) (m : DynamicMessage) (z : Text) → IsBracedText options 100 x i m z → m.descriptor.pool.now ≡ pool → Shaped 101 m
+  in_braces_at : (x : ℕ) → Expansion (printer_at x) x → (i : ℕ) (m : DynamicMessage) (z : Text) → IsBracedText options 100 x i m z → m.descriptor.pool.now ≡ pool → Shaped 101 m
       → z ≡ value_shown p i (braced curly (printed_within x own w (name_at pool m.descriptor.index) (view m)))
   in_braces_at x expansion i m z text there shaped =
-      braced_text p skip as_declared expand pool sound.entries values decoded (inner_at x) 100 x (printed_at x) (unexpanded_at x) expansion text 101 there shaped
+      braced_text (printer_at x) x (printed_at x) (unexpanded_at x) expansion text 101 there shaped
       ∙ ap (λ fs. value_shown p i (braced curly fs)) (sym (within_is x (name_at pool m.descriptor.index) (view m)))
 
-  pub expansion_at : (x : ℕ) → Expansion p skip as_declared expand pool sound.entries values decoded (inner_at x) 100 x
+  pub expansion_at : (x : ℕ) → Expansion (printer_at x) x
   expansion_at zero levels m there shaped url body may some i z text = let none = may.1 in absurd (omega (arith, none))
   expansion_at (suc more) levels m there shaped url body may some i z text =
       let its = some_at (inner_at (suc more)) levels m there shaped may.0 url body some in
@@ -113,6 +121,6 @@ module _ (p skip as_declared expand : Bool) (pool : PoolType) (sound : IsSound p
 
   -- a whole message
   pub whole_said : (x i : ℕ) (braces any : Bool) (m : DynamicMessage) (z : Text) → IsItemsText options 100 x i braces m any z → m.descriptor.pool.now ≡ pool → Shaped 101 m
-      → ShowsItems p skip as_declared expand pool sound.entries values decoded (inner_at x) 100 braces i m any z
+      → ShowsItems (printer_at x) braces i m any z
   whole_said x i braces any m z text there shaped =
-      items_said p skip as_declared expand pool sound.entries values decoded (inner_at x) 100 x (printed_at x) (unexpanded_at x) (expansion_at x) text 101 there shaped
+      items_said (printer_at x) x (printed_at x) (unexpanded_at x) (expansion_at x) text 101 there shaped

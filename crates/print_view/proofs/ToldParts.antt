@@ -27,16 +27,6 @@ use Rattle.print_view.proofs.Pieces.{Pair, word_said}
 use Rattle.print_view.proofs.ToldTokens.{TellsRecord, Ends, IsPairShown, ends_behind, nothing_told, told_braces, told_colon, told_item, told_name, told_padding, told_pair}
 use Rattle.print_view.proofs.Values.{key_said_one, no_message}
 
--- the options that tell fields and unknown records
-abbrev pub telling_options : (p skip as_declared expand : Bool) → FormatOptions
-telling_options p skip as_declared expand = record {
-  pretty = p;
-  skip_unknown_fields = false;
-  skip_default_fields = skip;
-  in_index_order = as_declared;
-  expand_any = expand;
-}
-
 -- ---- what stands behind other text does not lengthen it, or is none
 
 abbrev pub IsNoneOrEnds : Text → Type 0

@@ -6,7 +6,6 @@ use Rattle.reflect_tables.specs.Types.{PoolType}
 use Rattle.reflect_pool.specs.declared.message.MessageDescriptor.{MessageDescriptor}
 use Rattle.reflect_scalar.specs.declared.map_key.MapKey.{MapKey}
 use Rattle.reflect_message.specs.Names.{DynamicMessage, Value}
-use Rattle.reflect_decode.specs.Spelled.{IsSpelled}
 use Rattle.print_parts.specs.Entries.{Entry, AreDeclared, AreOthers, extension_entries}
 use Rattle.print_parts.specs.Expands.{Expands}
 use Rattle.reflect_print.specs.MessageTexts.{MayExpand, IsMessageText, IsValueText, single_text, message_text, list_text, map_text, IsListText, no_values, more_values, IsPairText, pair_text, IsMapText, no_pairs, more_pairs, IsBracedText, braced, IsItemsText, expanded, listed, IsRowText, no_entries, more_entries, IsEntryText, field_text, extension_text, record_text}
@@ -16,10 +15,10 @@ use Rattle.protobuf_model.specs.Types.{Name}
 use Rattle.protobuf_model.specs.Values.{Message}
 use Rattle.text_model.specs.Expansions.{HasOneForm}
 use Rattle.text_model.specs.Plain.{IsPlain}
+use Rattle.message_view.specs.Shaped.{IsInShape}
 use Rattle.message_view.specs.Sound.{IsSound}
 use Rattle.message_view.specs.Types.{name_at, types_of}
 use Rattle.message_view.specs.Views.{view}
-use Rattle.message_view.proofs.Recoded.{decoded_shaped}
 use Rattle.text_view.specs.Schemas.{schema_of}
 use Rattle.print_view.specs.Expansions.{DecodesIn, HasUsualAny}
 use Rattle.print_view.specs.Forms.{HaveMessagePresence}
@@ -113,15 +112,15 @@ module _ (options : FormatOptions) (decoded : Name → Text → Option Message) 
 
 -- a whole message
 pub told_alike : (options : FormatOptions) (decoded : Name → Text → Option Message) (d : MessageDescriptor) → IsSound d.pool.now → (options.skip_default_fields ≡ false → HaveMessagePresence d.pool.now)
-    → (options.expand_any ≡ true → DecodesIn d.pool.now decoded × HasUsualAny d.pool.now) → (bytes : List ℕ) (m : DynamicMessage) → m.descriptor ≡ d → IsSpelled d bytes m
+    → (options.expand_any ≡ true → DecodesIn d.pool.now decoded × HasUsualAny d.pool.now) → (m : DynamicMessage) → m.descriptor ≡ d → IsInShape m
     → IsPlain (types_of d.pool.now) (name_at d.pool.now d.index) (view m) → (options.expand_any ≡ true → HasOneForm 100 (schema_of d.pool.now decoded) (name_at d.pool.now d.index) (view m))
     → (z : Text) → IsMessageText options m z → IsMessageText (untold options) m z
-told_alike options decoded d sound present expandable bytes m type spelled plain forms z (any, text) =
+told_alike options decoded d sound present expandable m type shape plain forms z (any, text) =
     let pool = d.pool.now in
     let name = ap (λ (e : MessageDescriptor). name_at d.pool.now e.index) (sym type) in
     let known : AllKnown options decoded pool 100 101 m = record {
       there = ap (λ (e : MessageDescriptor). e.pool.now) type;
-      shaped = decoded_shaped d bytes m type spelled;
+      shaped = shape;
       known = (
         subst (λ t. IsPlain (types_of d.pool.now) t (view m)) name plain,
         subst (λ t. Forms (schema_of d.pool.now decoded) options.expand_any 100 101 t (view m)) name

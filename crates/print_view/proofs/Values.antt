@@ -43,17 +43,8 @@ use Rattle.text_view.specs.Schemas.{schema_of}
 use Rattle.print_view.specs.Forms.{form_of}
 use Rattle.print_view.proofs.Parts.{HaveValues}
 use Rattle.print_view.proofs.Pieces.{Pair, value_shown, given_shown, list_shown, scalar_value, scalar_given, message_given, list_given, list_none, list_more, one, row, word_said, name_said, bracket_said, url_said, row_append, any_pairs, any_append, braced_said}
+use Rattle.print_view.proofs.Printer.{Printer, own_of}
 use Rattle.print_view.proofs.Singles.{single_said, key_said}
-
--- the options that tell fields and no unknown records
-abbrev pub own_options : (p skip as_declared expand : Bool) → FormatOptions
-own_options p skip as_declared expand = record {
-  pretty = p;
-  skip_unknown_fields = true;
-  skip_default_fields = skip;
-  in_index_order = as_declared;
-  expand_any = expand;
-}
 
 -- what is seen of a value is of one sort
 pub no_message : (v : Value) (c : Content) → content_view v ≡ c → ((m : Message) → c ≡ model.message m → ⊥) → message_in v ≡ None
@@ -77,10 +68,32 @@ key_said_one p i k key h =
     ap (λ l. codes "key" ++ (colon p ++ l)) h ∙ ap (λ l. codes "key" ++ l) (sym (scalar_given p i k))
     ∙ ap (λ l. l ++ given_shown p i (tree.one_scalar k)) (sym (word_said (codes "key")))
 
-module _ (p skip as_declared expand : Bool) (pool : PoolType) (fields_of : HaveEntryFields pool) (values : HaveValues pool) (decoded : Name → Text → Option Message) (inner : Inner) (payloads : ℕ) where
+module _ (printer : Printer) where
+  -- its parts
+  abbrev p : Bool
+  p = printer.pretty
+
+  abbrev pool : PoolType
+  pool = printer.pool
+
+  abbrev fields_of : HaveEntryFields printer.pool
+  fields_of = printer.fields_of
+
+  abbrev values : HaveValues printer.pool
+  values = printer.values
+
+  abbrev decoded : Name → Text → Option Message
+  decoded = printer.decoded
+
+  abbrev inner : Inner
+  inner = printer.inner
+
+  abbrev payloads : ℕ
+  payloads = printer.payloads
+
   -- the options, and the form that they are
   abbrev pub options : FormatOptions
-  options = own_options p skip as_declared expand
+  options = own_of printer
 
   abbrev pub own : Form
   own = form_of options

@@ -1,2 +1,4 @@
 pub mod Forms
 pub mod Expansions
+pub mod InBytes
+pub mod Readable

@@ -2,5 +2,6 @@
 //! says. It has no code.
 #![tactic(auto)]
 
+pub mod decoder;
 pub mod laws;
 pub mod unknown;

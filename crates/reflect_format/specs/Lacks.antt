@@ -21,6 +21,10 @@ abbrev pub IsGroupCalled : FieldDescriptor → List ℕ → Type 0
 IsGroupCalled f name = ((field_type f).group ≡ true) × (i : ℕ) × ((field_type f).kind ≡ message i)
     × ((type_at (field_pool f) i).name ≡ name)
 
+-- it is none
+abbrev pub IsNoGroup : FieldDescriptor → Type 0
+IsNoGroup f = (name : List ℕ) → IsGroupCalled f name → ⊥
+
 -- no field of the type has the name in lower case, or the first that has it is no group whose type
 -- has the name
 abbrev pub LacksGroup : MessageDescriptor → List ℕ → Type 0

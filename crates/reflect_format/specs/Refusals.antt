@@ -15,7 +15,7 @@ use Rattle.reflect_entries.specs.Entries.{value_at}
 use Rattle.reflect_numbered.specs.Called.{HasNumber, TellsMeant}
 use Rattle.reflect_message.specs.Held.{fields_of, extensions_of}
 use Rattle.reflect_message.specs.Names.{DynamicMessage}
-use Rattle.reflect_format.specs.Lacks.{IsGroupCalled, LacksField, LacksGroup, HasFloatField, LacksExtension, HasFloatExtension}
+use Rattle.reflect_format.specs.Lacks.{IsGroupCalled, IsNoGroup, LacksField, LacksGroup, HasFloatField, LacksExtension, HasFloatExtension}
 use Rattle.reflect_format.specs.declared.target.Target.{Target}
 use Rattle.reflect_format.specs.declared.target.Target.TheVariants as targets
 use Rattle.protox_lex.specs.declared.span.Span.{Span}
@@ -104,9 +104,11 @@ abbrev pub Shares : Target → OneofDescriptor → Type 0
 Shares (targets.Field f) o = (o.message ≡ f.message) × ((field_type f).oneof ≡ Some o.index)
 Shares (targets.Extension x) o = ⊥
 
--- a text sets it by this name: of a group its type's, of an extension the one in brackets
+-- a text sets it by this name: a group by its type's, any other field by its own, an extension by
+-- the one in brackets
 abbrev pub IsTextName : Target → List ℕ → Type 0
-IsTextName (targets.Field f) name = ((field_type f).name ≡ name) ⊎ IsGroupCalled f name
+IsTextName (targets.Field f) name =
+    IsGroupCalled f name ⊎ (IsNoGroup f × ((field_type f).name ≡ name))
 IsTextName (targets.Extension x) name = (extension_at x.pool.now x.index).json_name ≡ name
 
 -- the message holds something under the number

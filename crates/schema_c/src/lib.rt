@@ -1,8 +1,7 @@
 //! The schema for C: `include/matzupol.h` declares these calls, and says what a caller owes.
 //!
 //! Each answers the number of how it ended, 0 for done. No pointer may be null: the header's calls
-//! of the same names without
-//! `unchecked` test that.
+//! of the same names without `unchecked` test that.
 #![tactic(auto)]
 
 ghost use Rattle.std.specs.Prelude.{◌≡◌, None};

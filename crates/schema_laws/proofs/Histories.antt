@@ -1,8 +1,6 @@
 -- Schemas that sources made with types for all options came about batch by batch.
-use Rattle.std.proofs.Common.{◌≡◌, ◌∙◌, List, [], ◌∷◌, Bool, true, map, None, Some, not, ap, refl, sym, subst}
-use Rattle.std.proofs.Math.Path.{fun_ext}
+use Rattle.std.proofs.Common.{◌≡◌, ◌∙◌, List, [], ◌∷◌, map, ap, refl, sym, subst}
 use Rattle.std.specs.List.{filter}
-use Rattle.std.specs.Prelude.{is_some, option_map, string_bytes}
 use Rattle.descriptor_records.specs.Content.{FileContent, file_view}
 use Rattle.descriptor_records.specs.declared.file.FileDescriptorProto.{FileDescriptorProto}
 use Rattle.linked_names.specs.SourcePools.{IsSourcePool}
@@ -12,11 +10,9 @@ use Rattle.option_parts.specs.TypedOptions.{TypedFiles, typed_file}
 use Rattle.option_parts.specs.declared.option_scope.OptionScope.{OptionScope}
 use Rattle.options_alike.proofs.Settled.{settled_reads}
 use Rattle.protox_laws.proofs.Sources.{same_record}
-use Rattle.reflect_build.specs.Refusals.{IsOf, Linking, is_unknown, new_files}
+use Rattle.reflect_build.specs.Refusals.{IsOf, Linking, new_files}
 use Rattle.reflect_build.proofs.Parted.{one_new}
-use Rattle.reflect_growth.proofs.Filters.{map-filter}
 use Rattle.reflect_pool.specs.Linked.{empty_pool}
-use Rattle.reflect_scope.specs.FileIndexes.{Indexes}
 use Rattle.reflect_tables.specs.Types.{PoolType}
 use Rattle.settled_again.specs.HeldOptions.{HasType}
 use Rattle.settled_again.proofs.Grown.{type_stays}
@@ -28,21 +24,10 @@ use Rattle.schema_laws.specs.Histories.{AreNewFilesOf, BatchLinked, IsMadeBy, So
 use Rattle.schema_laws.proofs.AddedBatches.{linked_batch}
 use Rattle.schema_laws.proofs.BatchFiles.{AddsBatch, CameAbout, came_more, none_came}
 use Rattle.schema_laws.proofs.Naming.{named_by_sources}
+use Rattle.schema_laws.proofs.NewFiles.{lacks, new_seen}
 use Rattle.schema_laws.proofs.SourceFiles.{options_of}
 
 -- ---- sources are one list of new files
-
--- a pool with these files lacks such a file
-abbrev lacks : Indexes → FileContent → Bool
-lacks indexes f = elim f.name [ None ↦ true | Some n ↦ not (is_some (indexes n)) ]
-
-lacked : (indexes : Indexes) (f : FileDescriptorProto) → is_unknown indexes f ≡ lacks indexes (file_view f)
-lacked indexes f = elim f.name as (λ o. elim o [ None ↦ true | Some s ↦ not (is_some (indexes (string_bytes s))) ] ≡ elim (option_map string_bytes o) [ None ↦ true | Some n ↦ not (is_some (indexes n)) ])
-    [ None ↦ refl | Some s ↦ refl ]
-
-new_seen : (indexes : Indexes) (fs : List FileDescriptorProto) → map file_view (new_files indexes fs) ≡ filter (lacks indexes) (map file_view fs)
-new_seen indexes fs =
-    ap (λ (p : FileDescriptorProto → Bool). map file_view (filter p fs)) (fun_ext (lacked indexes)) ∙ map-filter file_view (lacks indexes) fs
 
 one_list : (sources : Sources) (fs gs : List FileDescriptorProto) → AreFilesOf sources fs → AreFilesOf sources gs → map file_view fs ≡ map file_view gs
 one_list [] [] [] are also = refl

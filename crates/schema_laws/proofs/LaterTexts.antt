@@ -8,8 +8,6 @@ use Rattle.protobuf_model.specs.Bytes.{bytes_of}
 use Rattle.protobuf_model.specs.Types.{Name}
 use Rattle.protobuf_model.specs.Values.{nothing}
 use Rattle.reflect_pool.specs.Dots.{without_dot}
-use Rattle.reflect_pool.specs.FindsNames.{FindsMessage}
-use Rattle.reflect_pool.specs.declared.message.MessageDescriptor.{MessageDescriptor}
 use Rattle.reflect_tables.specs.Types.{MessageType, PoolType, no_type}
 use Rattle.text_error.specs.declared.error.ParseErrorKind.{ParseErrorKind}
 use Rattle.text_error.specs.declared.error.ParseErrorKind.TheVariants.{Memory}
@@ -34,7 +32,7 @@ use Rattle.growing_texts.proofs.Batches.{further, is_there}
 use Rattle.growing_texts.proofs.Files.{IsAsBefore}
 use Rattle.growing_texts.proofs.Wanted.{mapped}
 use Rattle.schema_core.specs.Payloads.{Encoded}
-use Rattle.schema_core.specs.Refusals.{IsNoText, IsUnknown}
+use Rattle.schema_core.specs.Refusals.{IsKnown, IsNoText, IsUnknown}
 use Rattle.schema_laws.proofs.Encoding.{IsGiven, encoded, refused}
 use Rattle.schema_laws.proofs.TextsAlike.{no_message}
 
@@ -42,14 +40,14 @@ module _ (name : List ℕ) where
   abbrev bears : MessageType → Bool
   bears m = bytes_eq m.full_name (without_dot name)
 
-  -- a type that is found is that of the name, and what no type has is found by none
-  called : (p : PoolType) (d : MessageDescriptor) → FindsMessage p name (Some d) → type_called p name ≡ Some (without_dot name)
-  called p d found = by (find bears p.messages) refl where
+  -- a type that is known is that of the name, and what no type has is found by none
+  pub called : (p : PoolType) → IsKnown p name → type_called p name ≡ Some (without_dot name)
+  called p (i, found) = by (find bears p.messages) refl where
     by : (o : Option MessageType) → find bears p.messages ≡ o → option_map (λ (m : MessageType). m.full_name) o ≡ Some (without_dot name)
     by (Some m) e = ap Some ((bytes_eq-Decides m.full_name (without_dot name)).0 (found_there bears p.messages m e).1)
     by None e =
-        let m = get_or p.messages d.index no_type in
-        absurd (none_found bears p.messages m e (get_contains p.messages d.index m (slice_get-get_or p.messages d.index no_type found.0)) ((bytes_eq-Decides m.full_name (without_dot name)).1 (found.1.0 no_type)))
+        let m = get_or p.messages i no_type in
+        absurd (none_found bears p.messages m e (get_contains p.messages i m (slice_get-get_or p.messages i no_type found.0)) ((bytes_eq-Decides m.full_name (without_dot name)).1 (found.1.0 no_type)))
 
   known : (p : PoolType) → type_called p name ≡ Some (without_dot name) → IsUnknown p name → ⊥
   known p e none =
@@ -88,7 +86,7 @@ module _ (earlier more : List (List FileContent)) (p q : PoolType) (typed : IsTy
     given : (text out : List ℕ) → Encoded p name text out → IsGiven q no_message t text out
     given text out encodes =
         let x = encoded p sound no_message name text out encodes in
-        let there = declared (called name p encodes.0 encodes.1.1) in
+        let there = declared (called name p (encodes.0.index, encodes.1.1)) in
         let gives : Gives (schema_in (view_of old) no_message) t text x.0 = subst (λ w. Gives w t text x.0) before x.1 in
         let same : bytes_of (types_of q) t x.0 ≡ bytes_of (types_of p) t x.0 =
         ap (λ (w : Schema). bytes_of w.types t x.0) after ∙ grown.written t there text x.0 gives ∙ sym (ap (λ (w : Schema). bytes_of w.types t x.0) before) in
@@ -107,4 +105,4 @@ module _ (earlier more : List (List FileContent)) (p q : PoolType) (typed : IsTy
 
     pub known_after : (text out : List ℕ) → Encoded p name text out → IsUnknown q name → ⊥
     known_after text out encodes none =
-        known name q (ap (λ (w : Schema). w.message name) after ∙ grown.called name t (viewed (called name p encodes.0 encodes.1.1))) none
+        known name q (ap (λ (w : Schema). w.message name) after ∙ grown.called name t (viewed (called name p (encodes.0.index, encodes.1.1)))) none

@@ -18,7 +18,11 @@ pub mod OwnRefused
 pub mod OwnSchemas
 pub mod Front
 pub mod BatchFiles
+pub mod NewFiles
+pub mod PlainNames
 pub mod Histories
+pub mod OneOrder
+pub mod OlderTypes
 pub mod OneFile
 pub mod SameRecords
 pub mod LaterTexts

@@ -29,3 +29,8 @@ twin view told xs us same k y there =
 pub all_from : {A B : Type 0} (view : A → B) (P : B → Type 0) (Q : A → Type 0) → ((x : A) → P (view x) → Q x) → (xs : List A) → AllByRecursion P (map view xs) → AllByRecursion Q xs
 all_from view P Q from [] all = tt
 all_from view P Q from (x ∷ xs) all = (from x all.0, all_from view P Q from xs all.1)
+
+-- what follows of what a function makes of each is so of all that it makes
+pub all_turned : {A B : Type 0} (turn : A → B) (P : A → Type 0) (Q : B → Type 0) → ((x : A) → P x → Q (turn x)) → (xs : List A) → AllByRecursion P xs → AllByRecursion Q (map turn xs)
+all_turned turn P Q so [] all = tt
+all_turned turn P Q so (x ∷ xs) all = (so x all.0, all_turned turn P Q so xs all.1)

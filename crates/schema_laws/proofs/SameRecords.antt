@@ -13,6 +13,7 @@ use Rattle.schema_laws.proofs.Lists.{twin}
 use Rattle.schema_laws.proofs.BatchFiles.{CameAbout}
 use Rattle.schema_laws.proofs.Histories.{came_about}
 use Rattle.schema_laws.proofs.OneFile.{one_content}
+use Rattle.schema_laws.proofs.PlainNames.{undotted}
 
 -- a record of the one is one of the other: what it was linked to stands in both
 one_way : (batches others : List (List FileContent)) (p q : PoolType) → CameAbout batches p → CameAbout others q → ((f : FileContent) → Contains (sources batches) f → IsPlainFile f)
@@ -31,11 +32,11 @@ one_way batches others p q a b plain same y i =
     (a.files k.0 x.0 y x.1 k.1) (b.files j.0 x.0 z.0 j.1 z.1) in
     subst (Contains (map file_view q.records)) (sym is) (get_contains (map file_view q.records) j.0 z.0 z.1)
 
-pub same_records : (batches others : List (List FileContent)) (s t : Schema) → IsMadeBy BatchLinked batches s → IsMadeBy BatchLinked others t → ((f : FileContent) → Contains (sources batches) f → IsPlainFile f)
+pub same_records : (batches others : List (List FileContent)) (s t : Schema) → IsMadeBy BatchLinked batches s → IsMadeBy BatchLinked others t
     → SameFiles (sources batches) (sources others) → SameFiles (map file_view s.pool.records) (map file_view t.pool.records)
-same_records batches others s t came also plain same y =
+same_records batches others s t came also same y =
     let a = came_about batches s came in
     let b = came_about others t also in (
-      one_way batches others s.pool t.pool a b plain same y,
-      one_way others batches t.pool s.pool b a (λ f i. plain f ((same f).1 i)) (λ f. ((same f).1, (same f).0)) y,
+      one_way batches others s.pool t.pool a b (undotted batches s came) same y,
+      one_way others batches t.pool s.pool b a (undotted others t also) (λ f. ((same f).1, (same f).0)) y,
     )

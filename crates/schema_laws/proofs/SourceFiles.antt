@@ -6,9 +6,10 @@ use Rattle.descriptor_records.specs.declared.file.FileDescriptorProto.{FileDescr
 use Rattle.plain_records.specs.PlainRecords.{ArePlainFiles, IsPlainFile}
 use Rattle.plain_records.specs.SaidOptions.{SaysOrWaits}
 use Rattle.plain_records.specs.SourceOptions.{AreOfSource}
+use Rattle.schema_view.specs.Plain as plain_names
 use Rattle.source_laws.proofs.LoneLists.{source_lone}
 use Rattle.source_laws.proofs.PlainFiles.{source_options, source_plain}
-use Rattle.source_laws.proofs.Sources.{source_names}
+use Rattle.source_laws.proofs.Sources.{source_names, source_undotted}
 use Rattle.source_records.specs.LoneLists.{GivesLoneLists}
 use Rattle.source_records.specs.SourceNames.{IsSourceFile}
 use Rattle.schema_core.specs.Refusals.{AreFilesOf, IsFileOf}
@@ -25,6 +26,10 @@ module _ (given : Sources) (files : List FileDescriptorProto) (are : AreFilesOf 
   -- names as sources give them
   pub names_of : AllByRecursion IsSourceFile (map file_view files)
   names_of = each_is IsSourceFile (λ s f. source_names s.0 s.1 f) given files are
+
+  -- names without dots
+  pub undotted_of : AllByRecursion plain_names.IsPlainFile (map file_view files)
+  undotted_of = each_is plain_names.IsPlainFile (λ s f. source_undotted s.0 s.1 f) given files are
 
   -- no list in a oneof
   pub lone_of : AllByRecursion GivesLoneLists (map file_view files)

@@ -40,8 +40,8 @@ pub fn schemas_of_sources_hold_their_options()
         → HoldsOptions s.pool }
 {}
 
-/// Where a schema holds its options so, the set is not refused, unless memory runs out, or its files
-/// declare more together than one batch may.
+/// Where a schema holds its options so, the set is not refused, unless memory runs out, or its
+/// files declare more together than one batch may.
 pub fn own_sets_are_not_refused()
     ensures { (s : Schema) → IsGrown s → HoldsOptions s.pool
         → AreBytes (pool_bytes s.pool) → length (pool_bytes s.pool) < 2 ^ 64

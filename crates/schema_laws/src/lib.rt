@@ -6,6 +6,7 @@ pub mod detour;
 pub mod growth;
 pub mod laws;
 pub mod names;
+pub mod older;
 pub mod orders;
 pub mod presence;
 pub mod records;

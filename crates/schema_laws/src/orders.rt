@@ -11,6 +11,7 @@ ghost use Rattle.schema_view.specs.Lawful.{SameFiles, sources};
 ghost use Rattle.schema_view.specs.Plain.{IsPlainFile};
 ghost use Rattle.schema_core.specs.Refusals.{IsPool, SourcesLinked, descriptor_name};
 ghost use Rattle.schema_core.specs.declared.schema.Schema.{Schema};
+ghost use Rattle.schema_laws.specs.Batches.{HaveSameFiles};
 ghost use Rattle.schema_laws.specs.Histories.{AreNewFilesOf, BatchLinked, IsMadeBy};
 
 /// A schema that `Schema::new` made has a history: the file of its source.
@@ -33,12 +34,25 @@ pub fn added_sources_are_history()
         × IsMadeBy BatchLinked (batch ∷ last ∷ earlier) new }
 {}
 
-/// Where the same files, whose names have no dots, came in other batches, both schemas hold the same
-/// records: the same options, and locations.
+/// The names in the files of a history have no dots, as the laws of order ask.
+pub fn files_of_sources_have_plain_names()
+    ensures { (batches : List (List FileContent)) (s : Schema) → IsMadeBy BatchLinked batches s
+        → (f : FileContent) → Contains (sources batches) f → IsPlainFile f }
+{}
+
+/// So where the same files came in other batches, all laws of schemas of the same files speak of
+/// the two: they have one order (`schemas_have_one_order`), and answer alike.
+pub fn histories_of_the_same_files_have_one_order()
+    ensures { (batches others : List (List FileContent)) (s t : Schema)
+        → IsMadeBy BatchLinked batches s
+        → IsMadeBy BatchLinked others t → SameFiles (sources batches) (sources others)
+        → HaveSameFiles batches others s t }
+{}
+
+/// And both hold the same records: the same options, and locations.
 pub fn schemas_of_the_same_files_hold_the_same_records()
     ensures { (batches others : List (List FileContent)) (s t : Schema)
         → IsMadeBy BatchLinked batches s → IsMadeBy BatchLinked others t
-        → ((f : FileContent) → Contains (sources batches) f → IsPlainFile f)
         → SameFiles (sources batches) (sources others)
         → SameFiles (map file_view s.pool.records) (map file_view t.pool.records) }
 {}

@@ -1,7 +1,8 @@
 //! Laws of presence in schemas, each the contract of a function that does nothing: that a field of
 //! one message has it, and that a field without it is read as not set where a text gives it its
-//! default, as the laws of texts with defaults ask (`print_view`). `IsMadeBy SourcesLinked batches s`
-//! says that a schema without files became `s` as these sources were added.
+//! default, as the laws of texts with defaults ask (`print_view`).
+//! `IsMadeBy SourcesLinked batches s` says that a schema without files became `s` as these sources
+//! were added.
 ghost use Rattle.std.specs.Prelude.{ℕ, List};
 ghost use Rattle.std.specs.List.{AllByRecursion};
 ghost use Rattle.descriptor_records.specs.Content.{file_view};

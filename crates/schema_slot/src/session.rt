@@ -103,7 +103,7 @@ impl Session {
         Code::NotUtf8
     }
 
-    /// KeepsSession a source, by its file's name and its text, until `link`.
+    /// Keeps a source, by its file's name and its text, until `link`.
     ///
     /// `NotUtf8` where one of them is none, `Memory`; a refusal keeps nothing.
     pub fn source(&mut self, name: &[u8], text: &[u8]) -> Code

@@ -36,8 +36,9 @@ IsNoDigits x = (x ≡ codes "inf") ⊎ (x ≡ codes "nan")
 abbrev pub IsInRange : Int → Type 0
 IsInRange n = n.negative ≡ true → n.value ≤ 2 ^ 63
 
--- constant = fullIdent | [ "-" ] intLit | [ "-" ] floatLit | strLit | boolLit | messageValue,
--- where of fullIdent one word alone is taken, and `-` before `inf` and `nan` too
+-- constant = fullIdent | ( [ "-" | "+" ] intLit ) | ( [ "-" | "+" ] floatLit ) | strLit | boolLit
+-- | messageValue, where of fullIdent one word alone is taken, no `+`, and `-` before `inf` and `nan`
+-- too
 abbrev pub a_constant : Value → Language
 a_constant (word_value w) = a_word w
 a_constant (minus_word w) = given (IsNoDigits w.text) (minus w.span (ident w.text))

@@ -9,6 +9,7 @@ pub mod LoneLists
 pub mod MessageRules
 pub mod NameRules
 pub mod NamedFields
+pub mod NamedParts
 pub mod NamedTypes
 pub mod NamedValues
 pub mod PlainFiles
@@ -21,5 +22,6 @@ pub mod PlainPlaces
 pub mod ServiceRules
 pub mod Sources
 pub mod Texts
+pub mod Undotted
 pub mod Words
 pub mod SmallNumbers

@@ -1,28 +1,23 @@
--- The records of fields, extensions and values have identifiers for names, and those of groups the
--- types that they declare.
-use Rattle.std.proofs.Common.{◌≡◌, ◌∙◌, ◌+◌, ◌++◌, ℕ, ℤ, true, List, [], ◌∷◌, length, Option, Some, flat_map, map, string_bytes, refl, ap, sym}
+-- The records of fields and extensions have identifiers for names, and those of groups the types
+-- that they declare.
+use Rattle.std.proofs.Common.{◌≡◌, ◌∙◌, ◌+◌, ◌++◌, ℕ, ℤ, true, List, [], ◌∷◌, length, Option, Some, flat_map, string_bytes, refl, ap, sym}
 use Rattle.std.specs.List.{AllByRecursion}
-use Rattle.descriptor_records.specs.Content.{EnumValueContent, FieldContent, MessageContents}
+use Rattle.descriptor_records.specs.Content.{FieldContent, MessageContents}
 use Rattle.descriptor_records.specs.FieldNumbers.{type_number}
 use Rattle.descriptor_records.specs.declared.field.FieldType.{FieldType}
 use Rattle.descriptor_records.specs.declared.field.FieldType.TheVariants as types
-use Rattle.protox_declaration_records.specs.EnumRecords.{enum_of, value_at}
 use Rattle.protox_field_records.specs.FieldName.{field_name_of}
 use Rattle.protox_field_records.specs.FieldRecords.{extension_at, extension_in, is_group, scalar_number, type_name_of, type_of}
 use Rattle.protox_field_records.specs.Layers.{AddedLayer, ItemLayer, MemberLayer}
 use Rattle.protox_field_records.specs.Places.{place_of}
 use Rattle.protox_laws.proofs.Layers.{added_seen, item_seen, member_seen}
 use Rattle.protox_lex.specs.Class.{Text}
-use Rattle.protox_message_records.specs.MessageRecords.{Declared, alone_at, enum_at, enum_in, extensions_at, extensions_in, field_in, fields_at, fields_from, fields_in, member_at, member_in, oneof_at, types_at, types_in, types_of_field, types_of_member, types_of_member_item}
+use Rattle.protox_message_records.specs.MessageRecords.{Declared, alone_at, extensions_at, extensions_in, field_in, fields_at, fields_from, fields_in, member_at, member_in, oneof_at, types_at, types_in, types_of_field, types_of_member, types_of_member_item}
 use Rattle.protox_tokens.specs.Marks.{Each}
 use Rattle.protox_tree.specs.Nest as tree
 use Rattle.protox_tree.specs.Nest.{group, map_kind, normal}
 use Rattle.protox_tree.specs.NestView.{extend_view, field_view, kind_view}
 use Rattle.protox_tree.specs.Tree.{Ty, named, scalar}
-use Rattle.protox_tree.specs.View.{enum_item_view, enum_view}
-use Rattle.protox_tree.specs.declared.enumeration.Enum.{Enum}
-use Rattle.protox_tree.specs.declared.enumeration.EnumItem.{EnumItem}
-use Rattle.protox_tree.specs.declared.enumeration.EnumItem.TheVariants as enum_items
 use Rattle.protox_tree.specs.declared.ident.TypeName.{TypeName}
 use Rattle.protox_tree.specs.declared.message.Extend.{Extend}
 use Rattle.protox_tree.specs.declared.message.ExtendItem.TheOpen.{ExtendItem-F, MessageItem-F, OneofItem-F}
@@ -33,10 +28,10 @@ use Rattle.protox_tree.specs.declared.message.OneofItem.{OneofItem}
 use Rattle.protox_tree.specs.declared.types.Syntax.{Syntax}
 use Rattle.source_laws.proofs.DeclaredTypes.{Has, IsThere, field_there, has_left, has_right}
 use Rattle.source_laws.proofs.Lists.{all_append, all_made}
-use Rattle.source_laws.specs.TreeNames.{IsNamedAdded, IsNamedEnum, IsNamedExtend, IsNamedField, IsNamedItem, IsNamedKind, IsNamedMember, IsNamedValue, IsNoGroup}
+use Rattle.source_laws.specs.TreeNames.{IsNamedAdded, IsNamedExtend, IsNamedField, IsNamedItem, IsNamedKind, IsNamedMember, IsNoGroup}
 use Rattle.source_laws.proofs.NamedValues.{HasNamedAdded, HasNamedItem, HasNamedMember, extend_added, field_names, oneof_members}
 use Rattle.source_laws.proofs.Texts.{lower_identifier}
-use Rattle.source_records.specs.SourceNames.{AreSpelled, Declares, HasSpelledValues, IsGroup, IsGroupField, IsSpelled}
+use Rattle.source_records.specs.SourceNames.{AreSpelled, Declares, IsGroup, IsGroupField, IsSpelled}
 use Rattle.text_model.specs.Identifiers.{is_identifier}
 
 -- ---- one field
@@ -50,7 +45,7 @@ pub no_group_number : (ty : Ty) → IsNoGroup ty → scalar_number ty ≡ Some (
 no_group_number (scalar t span) h e = h (ap Some (number_group t (cc e)))
 no_group_number (named name) h e = cc e
 
-field_spelled : (name : Text) (k : tree.Kind) → is_identifier name ≡ true
+pub field_spelled : (name : Text) (k : tree.Kind) → is_identifier name ≡ true
     → IsSpelled (Some (field_name_of name (is_group k)))
 field_spelled name (normal ty) h = h
 field_spelled name (group g) h = lower_identifier name h
@@ -160,33 +155,3 @@ pub items_extensions : (is : List MessageItem) → Each HasNamedItem is
     → AreSpelled (flat_map extensions_at is)
 items_extensions is h =
     all_made HasNamedItem HasName extensions_at (λ i. item_extensions (out-MessageItem i)) is h
-
--- ---- enums
-
-abbrev HasValueName : EnumValueContent → Type 0
-HasValueName v = IsSpelled v.name
-
-value_spelled : (i : EnumItem) → IsNamedValue (enum_item_view i)
-    → AllByRecursion HasValueName (value_at i)
-value_spelled (enum_items.Value v) h = (h, tt)
-value_spelled i h = tt
-
-values_spelled : (is : List EnumItem) → Each IsNamedValue (map enum_item_view is)
-    → AllByRecursion HasValueName (flat_map value_at is)
-values_spelled [] h = tt
-values_spelled (i ∷ is) h =
-    all_append HasValueName (value_at i) (flat_map value_at is) (value_spelled i h.0)
-    (values_spelled is h.1)
-
-pub enum_spelled : (e : Enum) → IsNamedEnum (enum_view e) → HasSpelledValues (enum_of e)
-enum_spelled e h = values_spelled e.items.items h.1
-
-item_enums : (o : ItemLayer) → IsNamedItem (item_seen o)
-    → AllByRecursion HasSpelledValues (enum_in o)
-item_enums (MessageItem-F.Enum e) h = (enum_spelled e h, tt)
-item_enums o h = tt
-
-pub items_enums : (is : List MessageItem) → Each HasNamedItem is
-    → AllByRecursion HasSpelledValues (flat_map enum_at is)
-items_enums is h =
-    all_made HasNamedItem HasSpelledValues enum_at (λ i. item_enums (out-MessageItem i)) is h

@@ -62,6 +62,10 @@ kind_level k h = subst IsNamedKind (kind_is k) h
 pub group_items : (g : Group) → IsNamedGroup (group_view g) → Each HasNamedItem g.items.items
 group_items g h = each_item g.items.items (subst IsNamedGroup (group_is g) h)
 
+pub oneof_name : (o : Oneof) → IsNamedOneof (oneof_view o)
+    → is_identifier (string_bytes o.name.value) ≡ true
+oneof_name o h = (subst IsNamedOneof (oneof_is o) h).0
+
 pub oneof_members : (o : Oneof) → IsNamedOneof (oneof_view o) → Each HasNamedMember o.items.items
 oneof_members o h = each_member o.items.items (subst IsNamedOneof (oneof_is o) h).1
 

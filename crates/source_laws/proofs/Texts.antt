@@ -48,7 +48,7 @@ lower_word b h =
     followed (is_in class.Word) (λ b. is_in class.Word (to_ascii_lowercase b)) 123 refl b
     (word_small b h) h
 
-not_dot : (b : ℕ) → is_in class.Word b ≡ true → (b == 46) ≡ false
+pub not_dot : (b : ℕ) → is_in class.Word b ≡ true → (b == 46) ≡ false
 not_dot b h = by (b == 46) refl where
   by : (t : Bool) → (b == 46) ≡ t → t ≡ false
   by false e = refl
@@ -74,7 +74,7 @@ lower_identifier (b ∷ t) h =
 
 -- ---- dots
 
-identifier_words : (t : Text) → is_identifier t ≡ true → list_all (is_in class.Word) t ≡ true
+pub identifier_words : (t : Text) → is_identifier t ≡ true → list_all (is_in class.Word) t ≡ true
 identifier_words [] h = refl
 identifier_words (b ∷ t) h =
     let both = and_parts (is_in class.Letter b) (list_all (is_in class.Word) t) h in

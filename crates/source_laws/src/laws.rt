@@ -8,6 +8,7 @@ ghost use Rattle.protox_file.specs.Sources.{Spells};
 ghost use Rattle.protox_lex.specs.Class.{Text};
 ghost use Rattle.protox_parse.specs.Answers.{IsAnswered};
 ghost use Rattle.protox_tree.specs.FileTree.{File};
+ghost use Rattle.schema_view.specs.Plain as names;
 ghost use Rattle.source_laws.specs.TreeNames.{HasIdentifiers};
 ghost use Rattle.source_records.specs.LoneLists.{GivesLoneLists};
 ghost use Rattle.source_records.specs.SourceNames.{IsSourceFile};
@@ -24,6 +25,12 @@ pub fn records_of_sources_have_source_names()
         → IsSourceFile (file_view made) }
 {}
 
+/// And no name of a declaration in it has a dot, as is asked of files that come in any order.
+pub fn records_of_sources_have_plain_names()
+    ensures { (name z : Text) (made : FileDescriptorProto)
+        → IsAnswered name z (Ok made) → names.IsPlainFile (file_view made) }
+{}
+
 /// In the record of a source no list is a member of a oneof.
 pub fn records_of_sources_have_lone_lists()
     ensures { (name z : Text) (made : FileDescriptorProto)
@@ -36,7 +43,8 @@ pub fn records_of_sources_are_plain()
         → IsAnswered name z (Ok made) → IsPlainFile SaysOrWaits 99 (file_view made) }
 {}
 
-/// Its options are what the source wrote, and nothing else, and those of the types of maps' entries.
+/// Its options are what the source wrote, and nothing else, and those of the types of maps'
+/// entries.
 pub fn records_of_sources_have_their_options()
     ensures { (name z : Text) (made : FileDescriptorProto)
         → IsAnswered name z (Ok made) → IsPlainFile AreOfSource 99 (file_view made) }

@@ -1,10 +1,9 @@
 -- What a text needs of message types beside their fields: the names of fields, of extensions and of
 -- enums' values.
-use Rattle.std.specs.Prelude.{◌≡◌, ◌↔◌, ℕ, ℤ, ◌==◌, cond, Bool, false, List, [], ◌∷◌, Option, Some, codes}
+use Rattle.std.specs.Prelude.{◌≡◌, ℕ, ℤ, ◌==◌, cond, Bool, false, List, [], ◌∷◌, Option, Some, codes}
 use Rattle.std.specs.List.{filter}
 use Rattle.protox_lex.specs.Class.{Text}
 use Rattle.protobuf_model.specs.Values.{Message}
-use Rattle.protobuf_model.specs.Coded.{Mean}
 use Rattle.protobuf_model.specs.Bytes.{is_declared}
 use Rattle.protobuf_model.specs.Types.{Name, enumeration, scalar, Part, Key, one, keyed, Field, rival, Types}
 
@@ -87,8 +86,3 @@ pub record HaveNames (w : Schema) : Type 0 where
   pub entries : (t : Name) (n : ℕ) (f : Field) (key : Key)
       → w.types t n ≡ Some f → f.label ≡ keyed key
       → IsEntryType w ((w.names t).entry n) key f.part ((w.names t).enum_name n)
-
--- bytes are decoded exactly as what they mean
-abbrev pub Decodes : Schema → Type 0
-Decodes w =
-    (t : Name) (bytes : Text) (m : Message) → (w.decoded t bytes ≡ Some m) ↔ Mean w.types t bytes m
