@@ -3,3 +3,4 @@ pub mod Located
 pub mod Moving
 pub mod Passing
 pub mod Setting
+pub mod Unread

@@ -2,7 +2,7 @@
 -- Options): by the schema's type for options of that sort, the stored bytes and then what a source
 -- wrote, in order.
 use Rattle.std.specs.declared.alloc.Global.{Global}
-use Rattle.std.specs.Prelude.{◌≡◌, ◌⊎◌, ◌&&◌, ◌||◌, ℕ, ℤ, List, [], ◌∷◌, Bool, true, false, not, Option, None, Some, Vec, codes, map, slice_get, take}
+use Rattle.std.specs.Prelude.{◌≡◌, ◌≢◌, ◌⊎◌, ◌&&◌, ◌||◌, ℕ, ℤ, List, [], ◌∷◌, Bool, true, false, not, Option, None, Some, Vec, codes, map, slice_get, take}
 use Rattle.std.specs.Option.{option_and_then, unwrap_or}
 use Rattle.std.specs.Str.{bytes_eq}
 use Rattle.descriptor_records.specs.Content.{NameContent, OptionsContent, option_view}
@@ -30,7 +30,8 @@ use Rattle.reflect_pool.specs.FindsNames.{FindsMessage}
 use Rattle.reflect_pool.specs.declared.message.MessageDescriptor.{MessageDescriptor}
 use Rattle.reflect_scalar.specs.Cases.{truth_of}
 use Rattle.reflect_tables.specs.Finding.{IsFirst}
-use Rattle.reflect_wire.specs.declared.wire_error.WireError.TheVariants.{TooDeep}
+use Rattle.reflect_wire.specs.declared.wire_error.WireError.{WireError}
+use Rattle.reflect_wire.specs.declared.wire_error.WireError.TheVariants.{Memory, TooDeep}
 
 -- the schema's type for the options of a scope
 abbrev pub IsType : OptionScope → NameScope → MessageDescriptor → Type 0
@@ -77,9 +78,15 @@ abbrev pub IsStored : OptionScope → MessageDescriptor → Options → DynamicM
 IsStored scope d o m = (m.descriptor ≡ d) × IsSpelled d o.encoded.items m
     × AgreesOnEntries scope o m × IsExclusive m
 
+-- what is told of bytes of options that are refused: want of memory is no fault of theirs
+abbrev pub of_wire : WireError → OptionErrorKind
+of_wire Memory = kinds.Memory
+of_wire e = kinds.UndecodableOptions (Some e)
+
 -- they spell none, or one that does not agree
 abbrev pub RefusesStored : OptionScope → MessageDescriptor → Options → OptionErrorKind → Type 0
-RefusesStored scope d o (kinds.UndecodableOptions (Some e)) = TellsWhy d o.encoded.items e
+RefusesStored scope d o (kinds.UndecodableOptions (Some e)) = (e ≢ Memory)
+    × TellsWhy d o.encoded.items e
 RefusesStored scopes.Message d o (kinds.UndecodableOptions None) =
     (m : DynamicMessage) × (m.descriptor ≡ d) × IsSpelled d o.encoded.items m
     × (unwrap_or (truth_said 7 m) false ≡ unwrap_or o.map_entry false → ⊥)
@@ -134,10 +141,16 @@ abbrev pub IsRecordOf : OptionScope → DynamicMessage → OptionsContent → Ty
 IsRecordOf scope m o =
     (o ≡ settled_record scope (typed_said scope m) (message_bytes m)) × IsReadBack m
 
--- they are not, most often because they nest too deep
+-- why they are not, most often because they nest too deep
+abbrev pub unread : WireError → OptionErrorKind
+unread TooDeep = kinds.OptionTooDeep
+unread e = of_wire e
+
+-- they are not
 abbrev pub RefusesWritten : DynamicMessage → OptionErrorKind → Type 0
 RefusesWritten m kinds.OptionTooDeep = TellsWhy m.descriptor (message_bytes m) TooDeep
-RefusesWritten m (kinds.UndecodableOptions (Some e)) = TellsWhy m.descriptor (message_bytes m) e
+RefusesWritten m (kinds.UndecodableOptions (Some e)) = (e ≢ Memory)
+    × TellsWhy m.descriptor (message_bytes m) e
 RefusesWritten m e = ⊥
 
 -- ---- the whole

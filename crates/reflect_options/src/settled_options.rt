@@ -6,7 +6,7 @@ ghost use Rattle.option_parts.specs.declared.option_error.OptionErrorKind.TheVar
 ghost use Rattle.option_setter.specs.OptionNames.{UnlessMemory};
 ghost use Rattle.reflect_message.specs.Bytes.{message_bytes};
 ghost use Rattle.reflect_message.specs.Names.{DynamicMessage};
-ghost use Rattle.reflect_options.specs.Settled.{FindsForbidden, IsForbiddenAt, IsReadBack, IsRecordOf, IsStored, IsWhole, RefusesAt, RefusesOptions, RefusesStored, RefusesTyped, RefusesWritten, SetsAll, Settles, StayAsTheyAre, is_forbidden, is_reserved, lists_of, settled_record, truth_said, typed_said};
+ghost use Rattle.reflect_options.specs.Settled.{FindsForbidden, IsForbiddenAt, IsReadBack, IsRecordOf, IsStored, IsWhole, RefusesAt, RefusesOptions, RefusesStored, RefusesTyped, RefusesWritten, SetsAll, Settles, StayAsTheyAre, is_forbidden, is_reserved, lists_of, of_wire, settled_record, truth_said, typed_said, unread};
 
 use descriptor_records::{Options, UninterpretedOption};
 use option_parts::{OptionErrorKind, OptionScope, UNINTERPRETED_OPTION};
@@ -40,6 +40,17 @@ impl From<AllocError> for OptionFault {
 
     fn from(_error: AllocError) -> OptionFault {
         OptionFault::from(OptionErrorKind::Memory)
+    }
+}
+
+impl From<WireError> for OptionFault {
+    ghost from_gives = { λ error f. (f.kind ≡ of_wire error) × (f.option ≡ None) };
+
+    fn from(error: WireError) -> OptionFault {
+        OptionFault::from(match error {
+            WireError::Memory => OptionErrorKind::Memory,
+            error => OptionErrorKind::UndecodableOptions { error: Some(error) },
+        })
     }
 }
 
@@ -125,14 +136,7 @@ fn stored_message<'p>(
     ensures refused { IfErr result (λ f.
         UnlessMemory (RefusesStored scope descriptor.entry options.now) f.kind) }
 {
-    let message = match DynamicMessage::decode(alloc, descriptor, options.encoded.as_slice()) {
-        Ok(message) => message,
-        Err(WireError::Memory) => return Err(OptionFault::from(OptionErrorKind::Memory)),
-        Err(error) => {
-            let error = Some(error);
-            return Err(OptionFault::from(OptionErrorKind::UndecodableOptions { error }));
-        }
-    };
+    let message = DynamicMessage::decode(alloc, descriptor, options.encoded.as_slice())?;
     if let (OptionScope::Message, Some((_, number))) = (scope, scope.typed_option()) {
         let stored = truth_at(&message, number)?.unwrap_or(false);
         if stored != options.map_entry.unwrap_or(false) {
@@ -184,12 +188,18 @@ fn written(alloc: Global, message: &DynamicMessage<'_>) -> Result<Vec<u8>, Optio
     };
     match DynamicMessage::decode(alloc, message.descriptor(), bytes.as_slice()) {
         Ok(_) => Ok(bytes),
-        Err(WireError::TooDeep) => Err(OptionFault::from(OptionErrorKind::OptionTooDeep)),
-        Err(WireError::Memory) => Err(OptionFault::from(OptionErrorKind::Memory)),
-        Err(error) => {
-            let error = Some(error);
-            Err(OptionFault::from(OptionErrorKind::UndecodableOptions { error }))
-        }
+        Err(error) => Err(unread(error)),
+    }
+}
+
+/// Why what was written is not read back.
+fn unread(error: WireError) -> OptionFault
+    ensures kind { result.kind ≡ unread error }
+    ensures none { result.option ≡ None }
+{
+    match error {
+        WireError::TooDeep => OptionFault::from(OptionErrorKind::OptionTooDeep),
+        error => OptionFault::from(error),
     }
 }
 

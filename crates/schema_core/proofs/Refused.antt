@@ -1,5 +1,5 @@
 -- How files, sources and descriptor sets are refused.
-use Rattle.std.proofs.Common.{◌≡◌, ◌⊎◌, ◌≤◌, ◌<◌, ◌+◌, ◌^◌, ◌++◌, inl, inr, ℕ, Bool, List, [], ◌∷◌, Option, None, Some, IfSome, length, take, get_or, slice_get, option_map, Ok, Err, ap, ◌∙◌, sym, subst}
+use Rattle.std.proofs.Common.{◌≡◌, ◌⊎◌, ◌≤◌, ◌<◌, ◌+◌, ◌^◌, ◌++◌, inl, inr, ℕ, Bool, true, false, cond, List, [], ◌∷◌, Option, None, Some, IfSome, length, take, get_or, slice_get, option_map, Ok, Err, ap, ◌∙◌, refl, sym, subst}
 use Rattle.std.specs.Borrow.{Bor}
 use Rattle.std.proofs.lemmas.Bool.{cases_lt}
 use Rattle.std.proofs.lemmas.List.{map-append, take-map, take_all, take_more}
@@ -12,11 +12,13 @@ use Rattle.reflect_codec.specs.Reading.{Rejects}
 use Rattle.reflect_codec.specs.Meaning.{IsSetBytes}
 use Rattle.message_view.specs.Sound.{IsSound}
 use Rattle.protox_parse.specs.Answers.{IsAnswered}
-use Rattle.protox_parse.specs.Refusals.{IsRefusalOf}
+use Rattle.protox_parse.specs.Refusals.{IsRefusalOf, faults_of}
 use Rattle.protox_parse.specs.declared.error.ParseError.{ParseError}
 use Rattle.protox_parse.specs.declared.error.ParseError.TheVariants as parsed
+use Rattle.protox_tree.specs.declared.error.ParseErrorKind.TheVariants.{FileTooLarge}
 use Rattle.reflect_tables.specs.Types.{PoolType}
 use Rattle.reflect_names.specs.Faults.{place_of}
+use Rattle.reflect_passes.specs.Errors.{is_memory}
 use Rattle.reflect_passes.specs.declared.error.DescriptorError.{DescriptorError}
 use Rattle.reflect_build.specs.Refusals.{AreRefused}
 use Rattle.reflect_bytes.specs.Spelled.{SpellsSet}
@@ -37,15 +39,23 @@ use Rattle.schema_core.specs.declared.payload.Fault.{Fault}
 use Rattle.schema_core.specs.declared.error.SchemaError.{SchemaError}
 use Rattle.schema_core.specs.declared.error.SchemaError.TheVariants.{Parse, Link, Options, Wire, Text, UnknownType, Memory, TooLong}
 use Rattle.reflect_decode.specs.Spelled.{TellsWhy}
+use Rattle.reflect_format.specs.Reads.{IsCause}
+use Rattle.reflect_format.specs.Told.{Told}
+use Rattle.reflect_format.specs.Truth.{TrueOf}
+use Rattle.text_format.specs.Texts.{IsFaultOf, MakesNone}
 use Rattle.reflect_pool.specs.declared.message.MessageDescriptor.{MessageDescriptor}
 use Rattle.schema_core.specs.Payloads.{IsType}
-use Rattle.schema_core.specs.Serving.{IsPayload, PayloadRefused, of_schema}
-use Rattle.schema_core.specs.Refusals.{of_source, of_wire, of_text, of_options, IsNoText, BytesRefused, TextRefused, DescriptorRefused, IsNoSet, FilesFit, FilesRefused, IsPool, sources_of, IsFileOf, AreFilesOf, SourcesLinked, SourcesRefused, SetRefused}
+use Rattle.schema_core.proofs.Apart.{NoLength, NoMemory, NoSchemaMemory, NoSourceMemory, NoTextMemory}
+use Rattle.schema_words.specs.declared.request.Action.TheVariants.{Encode}
+use Rattle.schema_core.specs.Serving.{IsPayload, PayloadRefused, RefusesInput, of_schema}
+use Rattle.schema_core.specs.Refusals.{of_source, of_linker, of_wire, of_text, of_options, IsNoText, BytesRefused, TextRefused, TypeRefused, DescriptorRefused, IsNoSet, FilesFit, FilesRefused, IsPool, sources_of, IsFileOf, AreFilesOf, SourcesLinked, SourcesRefused, SetRefused}
 
 -- a linker's refusal is one of files
-pub of_link : (p : PoolType) (files typed : List FileDescriptorProto) (d : DescriptorError) (e : SchemaError) → TypedFiles files typed → AreRefused p typed d → (e ≡ Memory) ⊎ (e ≡ Link d) → FilesRefused p files e
-of_link p files typed d e t r (inl m) = rw m tt
-of_link p files typed d e t r (inr l) = rw l (typed, t, r)
+pub of_link : (p : PoolType) (files typed : List FileDescriptorProto) (d : DescriptorError) (e : SchemaError) → TypedFiles files typed → AreRefused p typed d → e ≡ of_linker d → FilesRefused p files e
+of_link p files typed d e t r is = by (is_memory d.first) refl where
+  by : (memory : Bool) → is_memory d.first ≡ memory → FilesRefused p files e
+  by true so = subst (FilesRefused p files) (sym (is ∙ ap (λ (m : Bool). cond m Memory (Link d)) so)) tt
+  by false so = subst (FilesRefused p files) (sym (is ∙ ap (λ (m : Bool). cond m Memory (Link d)) so)) (typed, t, so, r)
 
 -- files that fit together are refused for their options
 pub refused_options : (p : PoolType) (files : List FileDescriptorProto) (linked : PoolType) (o : OptionError) (kind : OptionErrorKind) → o.kind ≡ kind → FilesFit p files linked → IsPool linked → IsSound linked → UnlessMemory (RefusesFrom linked (length p.files) (option_place o)) kind
@@ -96,12 +106,19 @@ one_read lends i d old new file inside so_far here put =
 pub all_read : (lends : List (Bor (List ℕ) × Bor (List ℕ))) (i : ℕ) (files : List FileDescriptorProto) → length lends ≤ i → AreFilesOf (sources_of (take i lends)) files → AreFilesOf (sources_of lends) files
 all_read lends i files end read = subst (λ l. AreFilesOf (sources_of l) files) (take_all i lends end) read
 
+-- what is told of a source that is too large, but for want of memory
+alone_told : (x : ParseError) → (x ≡ parsed.Memory → ⊥) → (x ≡ parsed.Memory) ⊎ (faults_of x ≡ FileTooLarge ∷ []) → faults_of x ≡ FileTooLarge ∷ []
+alone_told x other (inl m) = absurd (other m)
+alone_told x other (inr alone) = alone
+
 -- a source that is refused is the first of its batch
 pub of_refused : (p : PoolType) (lends : List (Bor (List ℕ) × Bor (List ℕ))) (i : ℕ) (s : List ℕ × List ℕ) (files : List FileDescriptorProto) (x : ParseError) → slice_get (sources_of lends) i ≡ Some s → AreFilesOf (sources_of (take i lends)) files
-    → (x ≡ parsed.Memory) ⊎ IsRefusalOf s.0 s.1 x → (length s.1 < 2 ^ 31 → IsAnswered s.0 s.1 (Err x)) → SourcesRefused p (sources_of lends) (of_source x)
-of_refused p lends i s files parsed.Memory at read h answered = tt
-of_refused p lends i s files (parsed.Refused r) at read (inl m) answered = absurd (cc m)
-of_refused p lends i s files (parsed.Refused r) at read (inr h) answered = (i, s, files, at, subst (λ l. AreFilesOf l files) (sym (take-map view i lends)) read, h, answered)
+    → (x ≡ parsed.Memory) ⊎ IsRefusalOf s.0 s.1 x → (2 ^ 31 ≤ length s.1 → (x ≡ parsed.Memory) ⊎ (faults_of x ≡ FileTooLarge ∷ [])) → (length s.1 < 2 ^ 31 → IsAnswered s.0 s.1 (Err x))
+    → SourcesRefused p (sources_of lends) (of_source x)
+of_refused p lends i s files parsed.Memory at read h large answered = tt
+of_refused p lends i s files (parsed.Refused r) at read (inl m) large answered = absurd (cc m)
+of_refused p lends i s files (parsed.Refused r) at read (inr h) large answered =
+    (i, s, files, at, subst (λ l. AreFilesOf l files) (sym (take-map view i lends)) read, h, answered, λ so. alone_told (parsed.Refused r) (λ q. subst NoSourceMemory q tt) (large so))
 
 -- files that are refused are refused as the sources that they are read from
 pub of_sources : (p : PoolType) (batch : List (List ℕ × List ℕ)) (files : List FileDescriptorProto) (e : SchemaError) → AreFilesOf batch files → FilesRefused p files e → SourcesRefused p batch e
@@ -126,35 +143,66 @@ lacks_types batch new o kind is linked none told = inr (new, linked, ap (option_
 
 -- bytes that are read as no set spell none, and have the fault that is told
 no_set : (bytes : List ℕ) (e : WireError) → (e ≡ wire.Memory → ⊥) → Rejects IsSetBytes SetBytesFault bytes e → IsNoSet bytes e
-no_set = unspelled IsSetBytes SetBytesFault (λ s. s.file.items)
+no_set bytes e other h = (other, unspelled IsSetBytes SetBytesFault (λ s. s.file.items) bytes e other h)
+
+at_fault : (p : PoolType) (bytes : List ℕ) (e : WireError) → (e ≡ wire.Memory → ⊥) → (e ≡ wire.TooLong → ⊥) → Rejects IsSetBytes SetBytesFault bytes e → SetRefused p bytes (Wire e)
+at_fault p bytes e other short h = (short, no_set bytes e other h)
 
 pub of_bytes : (p : PoolType) (bytes : List ℕ) (e : WireError) → Rejects IsSetBytes SetBytesFault bytes e → SetRefused p bytes (of_wire e)
 of_bytes p bytes wire.Memory h = tt
-of_bytes p bytes wire.Truncated h = no_set bytes wire.Truncated (λ q. cc q) h
-of_bytes p bytes wire.BadVarint h = no_set bytes wire.BadVarint (λ q. cc q) h
-of_bytes p bytes wire.BadKey h = no_set bytes wire.BadKey (λ q. cc q) h
-of_bytes p bytes wire.BadWireType h = no_set bytes wire.BadWireType (λ q. cc q) h
-of_bytes p bytes wire.EndGroupMismatch h = no_set bytes wire.EndGroupMismatch (λ q. cc q) h
-of_bytes p bytes wire.TooDeep h = no_set bytes wire.TooDeep (λ q. cc q) h
-of_bytes p bytes wire.BadUtf8 h = no_set bytes wire.BadUtf8 (λ q. cc q) h
-of_bytes p bytes wire.TooLong h = no_set bytes wire.TooLong (λ q. cc q) h
+of_bytes p bytes wire.Truncated h = at_fault p bytes wire.Truncated (λ q. subst NoMemory q tt) (λ q. subst NoLength q tt) h
+of_bytes p bytes wire.BadVarint h = at_fault p bytes wire.BadVarint (λ q. subst NoMemory q tt) (λ q. subst NoLength q tt) h
+of_bytes p bytes wire.BadKey h = at_fault p bytes wire.BadKey (λ q. subst NoMemory q tt) (λ q. subst NoLength q tt) h
+of_bytes p bytes wire.BadWireType h = at_fault p bytes wire.BadWireType (λ q. subst NoMemory q tt) (λ q. subst NoLength q tt) h
+of_bytes p bytes wire.EndGroupMismatch h = at_fault p bytes wire.EndGroupMismatch (λ q. subst NoMemory q tt) (λ q. subst NoLength q tt) h
+of_bytes p bytes wire.TooDeep h = at_fault p bytes wire.TooDeep (λ q. subst NoMemory q tt) (λ q. subst NoLength q tt) h
+of_bytes p bytes wire.BadUtf8 h = at_fault p bytes wire.BadUtf8 (λ q. subst NoMemory q tt) (λ q. subst NoLength q tt) h
+of_bytes p bytes wire.TooLong h = no_set bytes wire.TooLong (λ q. subst NoMemory q tt) h
+
+-- bytes and texts of a type that is not known
+pub unknown_bytes : (p : PoolType) (name bytes : List ℕ) (e : SchemaError) → TypeRefused p name e → BytesRefused p name bytes e
+unknown_bytes p name bytes (UnknownType n) h = h
+unknown_bytes p name bytes Memory h = tt
+unknown_bytes p name bytes (Parse e) h = absurd h
+unknown_bytes p name bytes (Link e) h = absurd h
+unknown_bytes p name bytes (Options e) h = absurd h
+unknown_bytes p name bytes (Wire e) h = absurd h
+unknown_bytes p name bytes (Text e) h = absurd h
+unknown_bytes p name bytes TooLong h = absurd h
+
+pub unknown_text : (p : PoolType) (name z : List ℕ) (e : SchemaError) → TypeRefused p name e → TextRefused p name z e
+unknown_text p name z (UnknownType n) h = h
+unknown_text p name z Memory h = tt
+unknown_text p name z (Parse e) h = absurd h
+unknown_text p name z (Link e) h = absurd h
+unknown_text p name z (Options e) h = absurd h
+unknown_text p name z (Wire e) h = absurd h
+unknown_text p name z (Text e) h = absurd h
+unknown_text p name z TooLong h = absurd h
 
 -- a text of a known type is refused with what is true of its pool
 pub of_text_kind : (p : PoolType) (name z : List ℕ) (e : text.ParseError) (kind : ParseErrorKind)
-    → e.kind ≡ kind → IsNoText p name z kind → TextRefused p name z (of_text e kind)
+    → e.kind ≡ kind → (d : MessageDescriptor) × IsType p name d × IsCause (MakesNone d z) kind × TrueOf p kind × Told (IsFaultOf d z) kind
+    → TextRefused p name z (of_text e kind)
 of_text_kind p name z e texts.Memory is h = tt
 of_text_kind p name z e (texts.TooLong span) is h = absurd h.3
-of_text_kind p name z e kind is h = subst (IsNoText p name z) (sym is) h
+of_text_kind p name z e kind is h = subst (IsNoText p name z) (sym is) (h.0, h.1, (λ q. subst NoTextMemory q tt), h.2, h.3, h.4)
 
 -- bytes that spell no message of a known type
 pub of_message : (p : PoolType) (name bytes : List ℕ) (d : MessageDescriptor) (e : WireError) → IsType p name d → TellsWhy d bytes e → BytesRefused p name bytes (of_wire e)
 of_message p name bytes d wire.Memory type told = tt
-of_message p name bytes d e type told = (d, type, told)
+of_message p name bytes d wire.TooLong type told = (d, type, (λ q. subst NoMemory q tt), told)
+of_message p name bytes d e type told = ((λ q. subst NoLength q tt), (d, type, (λ q. subst NoMemory q tt), told))
 
 -- and so an input that they are the payload of
 pub of_payload : (p : PoolType) (name : List ℕ) (is_hex : Bool) (input bytes : List ℕ) (e : SchemaError) → IsPayload is_hex input bytes → BytesRefused p name bytes e → PayloadRefused p name is_hex input (of_schema e)
 of_payload p name is_hex input bytes Memory payload refused = tt
-of_payload p name is_hex input bytes e payload refused = (bytes, payload, refused)
+of_payload p name is_hex input bytes e payload refused = (bytes, payload, (λ q. subst NoSchemaMemory q tt), refused)
+
+-- a text that is none of a known type, and so an input that is it
+pub of_input : (p : PoolType) (name : List ℕ) (is_hex : Bool) (input : List ℕ) (e : SchemaError) → TextRefused p name input e → RefusesInput Encode p name is_hex input (of_schema e)
+of_input p name is_hex input Memory refused = tt
+of_input p name is_hex input e refused = ((λ q. subst NoSchemaMemory q tt), refused)
 
 -- an input that is read whole is what was given
 pub refused_input : (F : List ℕ → Fault → Type 0) (given : Option (List ℕ)) (input : List ℕ) (f : Fault) → IfSome given (λ xs. input ≡ xs) → F input f → IfSome given (λ xs. F xs f)

@@ -1,19 +1,22 @@
 -- Which refusals the calls of a schema give.
-use Rattle.std.specs.Prelude.{◌≡◌, ◌⊎◌, ◌<◌, ◌^◌, ℕ, List, [], ◌∷◌, None, Some, Ok, Err, map, length, take, slice_get, string_bytes, codes}
+use Rattle.std.specs.Prelude.{◌≡◌, ◌≢◌, ◌⊎◌, ◌<◌, ◌≤◌, ◌^◌, ℕ, List, [], ◌∷◌, false, cond, None, Some, Ok, Err, map, length, take, slice_get, string_bytes, codes}
 use Rattle.std.specs.Borrow.{Bor}
 pub use Rattle.linked_view.specs.Pools.{IsPool}
 use Rattle.message_view.specs.Sound.{IsSound}
 use Rattle.protox_parse.specs.Answers.{IsAnswered}
-use Rattle.protox_parse.specs.Refusals.{IsRefusalOf}
+use Rattle.protox_parse.specs.Refusals.{IsRefusalOf, faults_of}
 use Rattle.protox_parse.specs.declared.error.ParseError.{ParseError}
 use Rattle.protox_parse.specs.declared.error.ParseError.TheVariants as parsed
+use Rattle.protox_tree.specs.declared.error.ParseErrorKind.TheVariants.{FileTooLarge}
 use Rattle.reflect_tables.specs.Finding.{IsFirst}
 use Rattle.reflect_tables.specs.Types.{PoolType, IsSettled}
 use Rattle.descriptor_records.specs.declared.file.FileDescriptorProto.{FileDescriptorProto}
 use Rattle.reflect_growth.specs.Settled.{bare_of}
 use Rattle.reflect_pool.specs.Dots.{without_dot}
 use Rattle.reflect_pool.specs.Linked.{empty_pool}
-use Rattle.reflect_build.specs.Refusals.{AreRefused}
+use Rattle.reflect_build.specs.Refusals.{AreRefused, AreTooMany}
+use Rattle.reflect_passes.specs.Errors.{is_memory}
+use Rattle.reflect_passes.specs.declared.error.DescriptorError.{DescriptorError}
 use Rattle.reflect_wire.specs.declared.wire_error.WireError.{WireError}
 use Rattle.reflect_wire.specs.declared.wire_error.WireError.TheVariants as wire
 use Rattle.reflect_codec.specs.Faults.{SetBytesFault}
@@ -42,6 +45,10 @@ use Rattle.schema_core.specs.declared.error.SchemaError.TheVariants.{Parse, Link
 abbrev pub of_source : ParseError → SchemaError
 of_source parsed.Memory = Memory
 of_source e = Parse e
+
+-- a refusal of the linker, as one of the schema
+abbrev pub of_linker : DescriptorError → SchemaError
+of_linker e = cond (is_memory e.first) Memory (Link e)
 
 -- a refusal of wire bytes, as one of the schema
 abbrev pub of_wire : WireError → SchemaError
@@ -74,22 +81,24 @@ TypeRefused p name (UnknownType n) = (string_bytes n ≡ name) × IsUnknown p na
 TypeRefused p name Memory = Unit {0}
 TypeRefused p name _ = ⊥
 
--- the type is known, and what is told of the bytes is true of them as a message of it
+-- the type is known, and what is told of the bytes is true of them as a message of it; want of
+-- memory is no fault of theirs
 abbrev pub IsNoMessage : PoolType → List ℕ → List ℕ → WireError → Type 0
-IsNoMessage p name bytes e = (d : MessageDescriptor) × IsType p name d × TellsWhy d bytes e
+IsNoMessage p name bytes e = (d : MessageDescriptor) × IsType p name d × (e ≢ wire.Memory)
+    × TellsWhy d bytes e
 
 -- of bytes: the type is unknown, or it is known and the bytes are refused
 abbrev pub BytesRefused : PoolType → List ℕ → List ℕ → SchemaError → Type 0
 BytesRefused p name bytes (UnknownType n) = (string_bytes n ≡ name) × IsUnknown p name
-BytesRefused p name bytes (Wire e) = IsNoMessage p name bytes e
+BytesRefused p name bytes (Wire e) = (e ≢ wire.TooLong) × IsNoMessage p name bytes e
 BytesRefused p name bytes TooLong = IsNoMessage p name bytes wire.TooLong
 BytesRefused p name bytes Memory = Unit {0}
 BytesRefused p name bytes _ = ⊥
 
 -- the type is known, the text makes no message of it, and what is told is its first fault, true of
--- the pool
+-- the pool, and no want of memory
 abbrev pub IsNoText : PoolType → List ℕ → List ℕ → ParseErrorKind → Type 0
-IsNoText p name text kind = (d : MessageDescriptor) × IsType p name d
+IsNoText p name text kind = (d : MessageDescriptor) × IsType p name d × (kind ≢ texts.Memory)
     × IsCause (MakesNone d text) kind × TrueOf p kind × Told (IsFaultOf d text) kind
 
 -- of a text: the type is unknown, or it is known and the text is refused
@@ -100,10 +109,10 @@ TextRefused p name text Memory = Unit {0}
 TextRefused p name text _ = ⊥
 
 -- files fit together and with a pool, which becomes the new one, with the options that linking
--- reads where it reads them
+-- reads where it reads them, and are not too many
 abbrev pub FilesFit : PoolType → List FileDescriptorProto → PoolType → Type 0
 FilesFit p files new = (typed : List FileDescriptorProto) × TypedFiles files typed
-    × RecordsLinked p typed new
+    × RecordsLinked p typed new × (AreTooMany p typed → ⊥)
 
 -- files are added to a pool and their options are settled, which changes records alone, and in
 -- these nothing but options and the paths of their locations
@@ -114,10 +123,10 @@ FilesLinked p files new = (linked : PoolType) × FilesFit p files linked
 
 -- of files: they do not fit together, or are too many; or they fit, into a pool whose types are
 -- sound, and a type of options is none to read options by, or options of theirs are refused, at
--- that place
+-- that place; want of memory is told apart
 abbrev pub FilesRefused : PoolType → List FileDescriptorProto → SchemaError → Type 0
 FilesRefused p files (Link e) = (typed : List FileDescriptorProto) × TypedFiles files typed
-    × AreRefused p typed e
+    × (is_memory e.first ≡ false) × AreRefused p typed e
 FilesRefused p files (Options e) = (linked : PoolType) × FilesFit p files linked
     × IsPool linked × IsSound linked
     × RefusesFrom linked (length p.files) (option_place e) e.kind
@@ -149,12 +158,13 @@ SourcesLinked p sources new = (files : List FileDescriptorProto) × AreFilesOf s
     × FilesLinked p files new
 
 -- the first source that is refused: those before it are files, and it is told under its own name,
--- with what its own text is at fault for, and where
+-- with what its own text is at fault for, and where, or that the text is too large
 abbrev pub IsFirstRefused : List (List ℕ × List ℕ) → ParseError → Type 0
 IsFirstRefused sources e =
     (i : ℕ) × (s : List ℕ × List ℕ) × (files : List FileDescriptorProto)
     × (slice_get sources i ≡ Some s) × AreFilesOf (take i sources) files
     × IsRefusalOf s.0 s.1 e × (length s.1 < 2 ^ 31 → IsAnswered s.0 s.1 (Err e))
+    × (2 ^ 31 ≤ length s.1 → faults_of e ≡ FileTooLarge ∷ [])
 
 -- of sources: one of them is refused as such, or their files are
 abbrev pub SourcesRefused : PoolType → List (List ℕ × List ℕ) → SchemaError → Type 0
@@ -179,13 +189,13 @@ abbrev pub SetLinked : PoolType → List ℕ → PoolType → Type 0
 SetLinked p bytes new = (files : List FileDescriptorProto) × SpellsSet bytes files
     × FilesLinked p files new
 
--- the bytes are no descriptor set, and what is told of them is so
+-- the bytes are no descriptor set, and what is told of them is so, and no want of memory
 abbrev pub IsNoSet : List ℕ → WireError → Type 0
-IsNoSet bytes e = NotSpelled (SpellsSet bytes) (SetBytesFault bytes) e
+IsNoSet bytes e = (e ≢ wire.Memory) × NotSpelled (SpellsSet bytes) (SetBytesFault bytes) e
 
 -- of a descriptor set: the bytes are none, or they are one whose files are refused
 abbrev pub SetRefused : PoolType → List ℕ → SchemaError → Type 0
-SetRefused p bytes (Wire e) = IsNoSet bytes e
+SetRefused p bytes (Wire e) = (e ≢ wire.TooLong) × IsNoSet bytes e
 SetRefused p bytes TooLong = IsNoSet bytes wire.TooLong
 SetRefused p bytes (Link e) = (files : List FileDescriptorProto) × SpellsSet bytes files
     × FilesRefused p files (Link e)

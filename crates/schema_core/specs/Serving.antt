@@ -1,5 +1,5 @@
 -- What `serve` writes for an input, and how it refuses one.
-use Rattle.std.specs.Prelude.{◌≡◌, ℕ, Bool, true, false, ◌||◌, ◌==◌, ◌-◌, List, [], ◌∷◌, ◌++◌, length, slice_index, Ok, IsErr, IsUtf8}
+use Rattle.std.specs.Prelude.{◌≡◌, ◌≢◌, ℕ, Bool, true, false, ◌||◌, ◌==◌, ◌-◌, List, [], ◌∷◌, ◌++◌, length, slice_index, Ok, IsErr, IsUtf8}
 use Rattle.std.specs.List.{AllPass}
 use Rattle.reflect_tables.specs.Types.{PoolType}
 use Rattle.hex.specs.Hex.{encode_lower, decode_of}
@@ -47,10 +47,10 @@ Answers Recode p name is_hex input written = (bytes : List ℕ) × IsPayload is_
 abbrev pub IsNoHex : List ℕ → Type 0
 IsNoHex input = (text : List ℕ) × IsTrimmed input text × IsErr (decode_of text)
 
--- wire bytes are refused as such, or as hexadecimal text
+-- wire bytes are refused as such, or as hexadecimal text; want of memory is told apart
 abbrev pub PayloadRefused : PoolType → List ℕ → Bool → List ℕ → Fault → Type 0
 PayloadRefused p name is_hex input (fault.Schema e) = (bytes : List ℕ)
-    × IsPayload is_hex input bytes × BytesRefused p name bytes e
+    × IsPayload is_hex input bytes × (e ≢ Memory) × BytesRefused p name bytes e
 PayloadRefused p name is_hex input fault.NotHex = (is_hex ≡ true) × IsNoHex input
 PayloadRefused p name is_hex input fault.NotUtf8 = ⊥
 PayloadRefused p name is_hex input fault.Read = Unit {0}
@@ -59,7 +59,8 @@ PayloadRefused p name is_hex input fault.Memory = Unit {0}
 
 -- how an input is refused
 abbrev pub RefusesInput : Action → PoolType → List ℕ → Bool → List ℕ → Fault → Type 0
-RefusesInput Encode p name is_hex input (fault.Schema e) = TextRefused p name input e
+RefusesInput Encode p name is_hex input (fault.Schema e) = (e ≢ Memory)
+    × TextRefused p name input e
 RefusesInput Encode p name is_hex input fault.NotHex = ⊥
 RefusesInput Encode p name is_hex input fault.NotUtf8 = ¬ IsUtf8 input
 RefusesInput Encode p name is_hex input fault.Read = Unit {0}

@@ -1,4 +1,4 @@
-ghost use Rattle.std.specs.Prelude.{◌≡◌, ◌⊎◌, Some, option_map};
+ghost use Rattle.std.specs.Prelude.{◌≡◌, Some, option_map};
 ghost use Rattle.std.specs.Fmt.{WritesOnOk};
 ghost use Rattle.schema_core.specs.Texts.{said, words};
 
@@ -135,9 +135,9 @@ impl From<SourceError> for SchemaError {
 }
 
 impl From<DescriptorError> for SchemaError {
-    ghost use Rattle.schema_core.specs.declared.error.SchemaError.TheVariants.{Memory, Link};
+    ghost use Rattle.schema_core.specs.Refusals.{of_linker};
 
-    ghost from_gives = { λ error e. (e ≡ Memory) ⊎ (e ≡ Link error) };
+    ghost from_gives = { λ error e. e ≡ of_linker error };
 
     fn from(error: DescriptorError) -> SchemaError {
         if error.is_memory() {

@@ -20,12 +20,19 @@ use text_format::TextFormat;
 const DESCRIPTOR_NAME: &str = "google/protobuf/descriptor.proto";
 
 /// Protobuf files that fit together, and the messages of their types as text and as bytes.
-#[derive(Drop)]
 pub struct Schema {
     alloc: Global,
     pool: DescriptorPool,
     /// Files come into the pool by linking alone, so its types are sound.
     pub ghost sound: { IsSound pool } by { IsSound-prop pool },
+}
+
+/// Taken apart here once: of a derived drop each crate that lets a schema go would prove anew how
+/// its pool goes.
+impl Drop for Schema {
+    fn drop(self) {
+        let Schema { alloc: _, pool: _ } = self;
+    }
 }
 
 impl Schema {

@@ -69,9 +69,9 @@ module _ (p : PoolType) (sound : IsSound p) (decoded : Name → List ℕ → Opt
       subst (λ t. IsGiven p decoded t text out) (found_named d p name found)
       (subst (λ (q : PoolType). IsGiven q decoded (name_at q d.index) text out) there given)
 
-  pub refused : (name text : List ℕ) (kind : ParseErrorKind) → (kind ≡ kinds.Memory → ⊥) → IsNoText p name text kind
+  pub refused : (name text : List ℕ) (kind : ParseErrorKind) → IsNoText p name text kind
       → (m : Message) → Gives w (without_dot name) text m → ⊥
-  refused name text kind other (d, (there, found), none, true_of, told) m gives =
+  refused name text kind (d, (there, found), other, none, true_of, told) m gives =
       let by_name = subst (λ t. Gives w t text m) (sym (found_named d p name found)) gives in
       none_given d (subst IsSound (sym there) sound) decoded text (cause _ kind other none) m
       (subst (λ (q : PoolType). Gives (schema_of q decoded) (name_at q d.index) text m) (sym there) by_name)
@@ -126,8 +126,8 @@ module _ (p : PoolType) (sound : IsSound p) (decoded : Name → List ℕ → Opt
         let y = recodes p sound name bytes out are recoded in
         x.2 ∙ ap (bytes_of (types_of p) t) (one_message w t nothing text x.0 m x.1 gives ∙ sym (one_meaning (types_of p) t nothing bytes y.0 m y.1 means)) ∙ y.2
 
-    pub taken : (kind : ParseErrorKind) → (kind ≡ kinds.Memory → ⊥) → IsNoText p name text kind → ⊥
-    taken kind other no_text = refused name text kind other no_text m gives
+    pub taken : (kind : ParseErrorKind) → IsNoText p name text kind → ⊥
+    taken kind no_text = refused name text kind no_text m gives
 
   -- ---- of bytes that a text was encoded to
 
@@ -155,5 +155,5 @@ module _ (p : PoolType) (sound : IsSound p) (decoded : Name → List ℕ → Opt
         let y = encoded name reprint again encodes_again in
         y.2 ∙ ap (bytes_of (types_of p) u) (one_message w u nothing reprint y.0 first.0 y.1 given_again) ∙ sym first.2
 
-    pub taken_again : (kind : ParseErrorKind) → (kind ≡ kinds.Memory → ⊥) → IsNoText p name reprint kind → ⊥
-    taken_again kind other no_text = refused name reprint kind other no_text first.0 given_again
+    pub taken_again : (kind : ParseErrorKind) → IsNoText p name reprint kind → ⊥
+    taken_again kind no_text = refused name reprint kind no_text first.0 given_again

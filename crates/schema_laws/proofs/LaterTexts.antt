@@ -10,7 +10,6 @@ use Rattle.protobuf_model.specs.Values.{nothing}
 use Rattle.reflect_pool.specs.Dots.{without_dot}
 use Rattle.reflect_tables.specs.Types.{MessageType, PoolType, no_type}
 use Rattle.text_error.specs.declared.error.ParseErrorKind.{ParseErrorKind}
-use Rattle.text_error.specs.declared.error.ParseErrorKind.TheVariants.{Memory}
 use Rattle.text_model.specs.Schemas.{Schema}
 use Rattle.text_model.specs.Texts.{Gives}
 use Rattle.text_model.proofs.Merging.{one_message}
@@ -98,10 +97,10 @@ module _ (earlier more : List (List FileContent)) (p q : PoolType) (typed : IsTy
         let y = encoded q so no_message name text b second in
         x.2 ∙ ap (bytes_of (types_of q) t) (one_message (schema_of q no_message) t nothing text x.0 y.0 x.1 y.1) ∙ sym y.2
 
-    pub taken_after : (text out : List ℕ) (kind : ParseErrorKind) → (kind ≡ Memory → ⊥) → Encoded p name text out → IsNoText q name text kind → ⊥
-    taken_after text out kind other encodes none =
+    pub taken_after : (text out : List ℕ) (kind : ParseErrorKind) → Encoded p name text out → IsNoText q name text kind → ⊥
+    taken_after text out kind encodes none =
         let x = given text out encodes in
-        refused q so no_message name text kind other none x.0 x.1
+        refused q so no_message name text kind none x.0 x.1
 
     pub known_after : (text out : List ℕ) → Encoded p name text out → IsUnknown q name → ⊥
     known_after text out encodes none =

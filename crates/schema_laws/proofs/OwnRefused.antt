@@ -1,5 +1,5 @@
 -- The set of a schema that holds its options is not refused.
-use Rattle.std.proofs.Common.{rules, ◌≡◌, ◌<◌, ◌^◌, ◌⊎◌, ◌∙◌, List, [], true, map, length, Option, None, Some, inl, inr, ap, sym, subst}
+use Rattle.std.proofs.Common.{rules, ◌≡◌, ◌<◌, ◌^◌, ◌∙◌, List, [], map, length, Option, None, Some, inl, inr, ap, refl, sym, subst}
 use Rattle.descriptor_records.specs.Content.{file_view}
 use Rattle.descriptor_records.specs.declared.file.FileDescriptorProto.{FileDescriptorProto}
 use Rattle.linked_alike.specs.ReadOptions.{read_file}
@@ -12,7 +12,6 @@ use Rattle.option_parts.specs.OptionTypes.{CanRead}
 use Rattle.option_parts.specs.Places.{option_place}
 use Rattle.option_parts.specs.TypedOptions.{TypedFiles}
 use Rattle.option_parts.specs.declared.option_error.OptionErrorKind.{OptionErrorKind}
-use Rattle.option_parts.specs.declared.option_error.OptionErrorKind.TheVariants.{UndecodableOptions}
 use Rattle.option_parts.specs.declared.option_scope.OptionScope.{OptionScope}
 use Rattle.options_alike.proofs.Alike.{read_alike, unread}
 use Rattle.plain_records.specs.PlainRecords.{ArePlainFiles}
@@ -24,7 +23,6 @@ use Rattle.reflect_bytes.specs.Spelled.{SpellsSet}
 use Rattle.reflect_bytes.specs.Written.{pool_bytes}
 use Rattle.reflect_names.specs.Faults.{Place}
 use Rattle.reflect_options.specs.Settling.{RefusesFrom}
-use Rattle.reflect_passes.specs.Errors.{is_memory}
 use Rattle.reflect_passes.specs.declared.error.DescriptorError.{DescriptorError}
 use Rattle.reflect_pool.specs.Linked.{empty_pool}
 use Rattle.reflect_tables.specs.Types.{PoolType}
@@ -51,7 +49,6 @@ use Rattle.schema_laws.proofs.Grown.{HasGrown, grown}
 use Rattle.schema_laws.proofs.OwnSets.{own_read, own_same}
 use Rattle.schema_laws.proofs.RefusedBatches.{no_batch}
 use Rattle.schema_laws.specs.Batches.{AreUnlawful}
-use Rattle.schema_laws.specs.Detours.{TellsMemory}
 use Rattle.schema_laws.specs.Histories.{IsGrown}
 
 -- nothing was linked into a pool without files, nor settled in it
@@ -63,7 +60,7 @@ module _ (s : Schema) (is : IsGrown s) (held : HoldsOptions s.pool) (short : len
   own = grown is.0 s is.1
 
   own_bytes : (e : WireError) → IsNoSet (pool_bytes s.pool) e → ⊥
-  own_bytes e none = none.0 s.pool.records (own_read s own.plain short)
+  own_bytes e none = none.1.0 s.pool.records (own_read s own.plain short)
 
   -- files as they are read, of which nothing is copied
   read_same : (files typed : List FileDescriptorProto) → SpellsSet (pool_bytes s.pool) files → TypedFiles files typed → map file_view typed ≡ map file_view s.pool.records
@@ -79,12 +76,12 @@ module _ (s : Schema) (is : IsGrown s) (held : HoldsOptions s.pool) (short : len
       let l = stand_again own.batches (map file_view own.typed.but.linked.records) (map file_view typed) own.typed.but.built.built (ap (map read_file) same ∙ own.alike) in
       unlawful l.0 (subst (λ fs. IsLawful [] (map file_view fs) l.0) (sym (all_new w of typed)) l.1)
 
-  own_link : (e : DescriptorError) → SetRefused empty_pool (pool_bytes s.pool) (Link e) → (is_memory e.first ≡ true) ⊎ ((typed : List FileDescriptorProto) × (map file_view typed ≡ map file_view s.pool.records) × AreTooMany empty_pool typed)
-  own_link e (files, spells, (typed, copied, refused)) =
+  own_link : (e : DescriptorError) → SetRefused empty_pool (pool_bytes s.pool) (Link e) → (typed : List FileDescriptorProto) × (map file_view typed ≡ map file_view s.pool.records) × AreTooMany empty_pool typed
+  own_link e (files, spells, (typed, copied, told, refused)) =
       let same = read_same files typed spells copied in
-      elim (no_batch [] empty_pool typed e unlinked (search rules) refused) [
-        | inl memory ↦ inl memory
-        | inr rest ↦ elim rest [ inl many ↦ inr (typed, same, many) | inr unlawful ↦ absurd (own_lawful typed same unlawful) ]
+      elim (no_batch [] empty_pool typed e unlinked (search rules) told refused) [
+        | inl many ↦ (typed, same, many)
+        | inr unlawful ↦ absurd (own_lawful typed same unlawful)
       ]
 
   -- ---- the pool that its files are linked into
@@ -111,18 +108,18 @@ module _ (s : Schema) (is : IsGrown s) (held : HoldsOptions s.pool) (short : len
     reads scope =
         read_alike s.pool linked s.sound sound names (keep_alike s.pool linked typed own.told told faultless pool records) scope (own.reads scope)
 
-    own_options : ArePlainFiles StoresBytes (map file_view s.pool.records) → (place : Option Place) (e : OptionErrorKind) → (e ≡ UndecodableOptions (Some wire.Memory) → ⊥) → RefusesFrom linked 0 place e → ⊥
-    own_options bytes None e other (scope, tells, cannot) = cannot (reads scope)
-    own_options bytes (Some place) e other refuses =
-        not_refused own.batches s.pool linked files typed own.typed own.is.kept own.plain held own.alike bytes same copied faultless pool sound reads place e other refuses
+    own_options : ArePlainFiles StoresBytes (map file_view s.pool.records) → (place : Option Place) (e : OptionErrorKind) → RefusesFrom linked 0 place e → ⊥
+    own_options bytes None e (scope, tells, cannot) = cannot (reads scope)
+    own_options bytes (Some place) e refuses =
+        not_refused own.batches s.pool linked files typed own.typed own.is.kept own.plain held own.alike bytes same copied faultless pool sound reads place e refuses
 
   -- ---- the whole
-  pub own_refused : AreBytes (pool_bytes s.pool) → (e : SchemaError) → (TellsMemory e → ⊥) → SetRefused empty_pool (pool_bytes s.pool) e
+  pub own_refused : AreBytes (pool_bytes s.pool) → (e : SchemaError) → (e ≡ Memory → ⊥) → SetRefused empty_pool (pool_bytes s.pool) e
       → (typed : List FileDescriptorProto) × (map file_view typed ≡ map file_view s.pool.records) × AreTooMany empty_pool typed
-  own_refused bytes (Wire e) other refused = absurd (own_bytes e refused)
+  own_refused bytes (Wire e) other refused = absurd (own_bytes e refused.1)
   own_refused bytes TooLong other refused = absurd (own_bytes wire.TooLong refused)
-  own_refused bytes Memory other refused = absurd (other tt)
-  own_refused bytes (Link e) other refused = elim (own_link e refused) [ inl memory ↦ absurd (other memory) | inr many ↦ many ]
-  own_refused bytes (Options e) other (files, spells, (linked, (typed, copied, (adds, faultless)), pool, sound, refuses)) =
-      absurd (own_options linked files typed spells copied faultless pool sound (files_stored SaysAndIsSettled s.pool.records own.plain bytes) (option_place e) e.kind other refuses)
+  own_refused bytes Memory other refused = absurd (other refl)
+  own_refused bytes (Link e) other refused = own_link e refused
+  own_refused bytes (Options e) other (files, spells, (linked, (typed, copied, (adds, faultless), few), pool, sound, refuses)) =
+      absurd (own_options linked files typed spells copied faultless pool sound (files_stored SaysAndIsSettled s.pool.records own.plain bytes) (option_place e) e.kind refuses)
   own_refused bytes _ other refused = absurd refused

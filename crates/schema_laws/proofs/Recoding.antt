@@ -7,14 +7,13 @@ use Rattle.protobuf_model.specs.Typed.{HaveDefaults}
 use Rattle.protobuf_model.specs.Types.{Name, Types}
 use Rattle.protobuf_model.specs.Values.{Message, nothing}
 use Rattle.protobuf_model.proofs.Bytewise.{bytes_mean, merged_well, one_meaning}
-use Rattle.protobuf_model.proofs.Chains.{passes, same_as_direct}
+use Rattle.protobuf_model.proofs.Chains.{accepted_by_older, passes, same_as_direct}
 use Rattle.protobuf_model.proofs.Merging.{nothing_typed}
 use Rattle.reflect_pool.specs.Dots.{without_dot}
 use Rattle.reflect_pool.specs.declared.message.MessageDescriptor.{MessageDescriptor}
 use Rattle.reflect_tables.specs.Types.{PoolType}
 use Rattle.reflect_wire.specs.Written.{AreBytes}
 use Rattle.reflect_wire.specs.declared.wire_error.WireError.{WireError}
-use Rattle.reflect_wire.specs.declared.wire_error.WireError.TheVariants.{Memory}
 use Rattle.message_view.specs.Recoded.{Recodes}
 use Rattle.message_view.specs.Sound.{IsSound}
 use Rattle.message_view.specs.Types.{name_at, types_of}
@@ -33,9 +32,9 @@ accepted p sound name bytes text b (m, (d, (there, found), type, apart, spelled)
     (subst (λ p. IsAccepted (types_of p) (name_at p d.index) bytes) there (means.0, means.1))
 
 -- what a schema refuses as a message of a known type
-pub refused : (p : PoolType) → IsSound p → (name bytes : List ℕ) (e : WireError) → (e ≡ Memory → ⊥)
+pub refused : (p : PoolType) → IsSound p → (name bytes : List ℕ) (e : WireError)
     → IsNoMessage p name bytes e → IsAccepted (types_of p) (without_dot name) bytes → ⊥
-refused p sound name bytes e other (d, (there, found), told) h =
+refused p sound name bytes e (d, (there, found), other, told) h =
     let named = subst (λ n. IsAccepted (types_of p) n bytes) (sym (found_named d p name found)) h in
     told_refused d (subst IsSound (sym there) sound) bytes e other told
     (subst (λ p. IsAccepted (types_of p) (name_at p d.index) bytes) (sym there) named)
@@ -54,6 +53,19 @@ as_recoded p name bytes out (m, read, written) = (
 
 pub recodes : (p : PoolType) → IsSound p → (name bytes out : List ℕ) → AreBytes bytes → Recoded p name bytes out → IsRecoded (types_of p) (without_dot name) bytes out
 recodes p sound name bytes out b h = recodes_named p name h.1.0 sound h.1.1.0 h.1.1.1 bytes out b (as_recoded p name bytes out h).1
+
+-- what a type writes again it accepts
+pub recoded_accepted : (p : PoolType) → IsSound p → (name bytes out : List ℕ) → AreBytes bytes → Recoded p name bytes out → IsAccepted (types_of p) (without_dot name) bytes
+recoded_accepted p sound name bytes out b h = let r = recodes p sound name bytes out b h in (r.1.0, r.1.1)
+
+-- an older schema refuses nothing that the type of the newer accepts
+pub takes_older : (old new : SchemaType)
+    → IsOlder (types_of old.0.pool) (without_dot old.1) (types_of new.0.pool) (without_dot new.1)
+    → (bytes : List ℕ) → IsAccepted (types_of new.0.pool) (without_dot new.1) bytes
+    → (e : WireError) → IsNoMessage old.0.pool old.1 bytes e → ⊥
+takes_older old new older bytes h e none =
+    refused old.0.pool old.0.sound old.1 bytes e none
+    (accepted_by_older (types_of old.0.pool) (types_of new.0.pool) (without_dot old.1) (without_dot new.1) bytes older h)
 
 pub defaults : (p : PoolType) → IsSound p → HaveDefaults (types_of p)
 defaults p sound = have_defaults p sound.keys sound.defaults
@@ -121,9 +133,9 @@ recoded_alike p q sound also same name bytes a b small first second =
 
 -- what the one recodes the other does not refuse
 pub accepted_alike : (p q : PoolType) → IsSound p → IsSound q → types_of p ≡ types_of q
-    → (name bytes out : List ℕ) (e : WireError) → (e ≡ Memory → ⊥) → AreBytes bytes
+    → (name bytes out : List ℕ) (e : WireError) → AreBytes bytes
     → Recoded p name bytes out → IsNoMessage q name bytes e → ⊥
-accepted_alike p q sound also same name bytes out e other small first none =
+accepted_alike p q sound also same name bytes out e small first none =
     let r = recodes p sound name bytes out small first in
-    refused q also name bytes e other none
+    refused q also name bytes e none
     (subst (λ ts. IsAccepted ts (without_dot name) bytes) same (r.1.0, r.1.1))

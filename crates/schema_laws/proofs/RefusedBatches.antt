@@ -1,5 +1,5 @@
 -- Files that are refused as they are linked are no batch.
-use Rattle.std.proofs.Common.{◌≡◌, ◌⊎◌, inl, inr, List, true, refl}
+use Rattle.std.proofs.Common.{◌≡◌, ◌⊎◌, ◌∙◌, inl, inr, List, true, false, refl, sym}
 use Rattle.descriptor_records.specs.Content.{FileContent}
 use Rattle.descriptor_records.specs.declared.file.FileDescriptorProto.{FileDescriptorProto}
 use Rattle.reflect_names.specs.Faults.{another, fault_view}
@@ -41,17 +41,17 @@ without_place kind.TooMany e = inr refl
 without_place kind.Memory e = inl refl
 
 pub no_batch : (earlier : List (List FileContent)) (p : PoolType) (fs : List FileDescriptorProto)
-    (e : DescriptorError) → (is : IsBuiltBut earlier p) → IsKept p → AreRefused p fs e
-    → AreNoBatch is.linked p fs e
-no_batch earlier p fs e is kept (inl few, many) = by (without_place e.first (cc few)) where
-  by : (is_memory e.first ≡ true) ⊎ (is_too_many e.first ≡ true) → AreNoBatch is.linked p fs e
-  by (inl memory) = inl memory
-  by (inr told) = inr (inl (many told))
-no_batch earlier p fs e is kept (inr (w, of, faulty), many) =
-    inr (inr (
+    (e : DescriptorError) → (is : IsBuiltBut earlier p) → IsKept p → is_memory e.first ≡ false
+    → AreRefused p fs e → AreNoBatch is.linked p fs
+no_batch earlier p fs e is kept told (inl few, many) = by (without_place e.first (cc few)) where
+  by : (is_memory e.first ≡ true) ⊎ (is_too_many e.first ≡ true) → AreNoBatch is.linked p fs
+  by (inl memory) = absurd (cc (sym memory ∙ told))
+  by (inr so) = inl (many so)
+no_batch earlier p fs e is kept told (inr (w, of, faulty), many) =
+    inr (
       w,
       of,
       λ meanings lawful.
           absurd (cc (no_faults earlier p w (new_files w.indexes fs) meanings is kept of lawful
           (faults_of e) faulty)),
-    ))
+    )

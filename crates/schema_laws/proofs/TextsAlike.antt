@@ -9,7 +9,6 @@ use Rattle.reflect_pool.specs.Dots.{without_dot}
 use Rattle.reflect_tables.specs.Types.{PoolType}
 use Rattle.reflect_wire.specs.Written.{AreBytes}
 use Rattle.text_error.specs.declared.error.ParseErrorKind.{ParseErrorKind}
-use Rattle.text_error.specs.declared.error.ParseErrorKind.TheVariants.{Memory}
 use Rattle.text_model.specs.Printed.{printed}
 use Rattle.text_model.specs.Rendered.{compact}
 use Rattle.text_model.specs.Schemas.{Schema}
@@ -51,11 +50,11 @@ module _ (p q : PoolType) (sound : IsSound p) (also : IsSound q)
         ∙ ap (bytes_of w.types t) (one_message w t nothing text x.0 y.0 x.1 y.1)
         ∙ sym y.2
 
-    pub taken_alike : (text out : List ℕ) (kind : ParseErrorKind) → (kind ≡ Memory → ⊥)
+    pub taken_alike : (text out : List ℕ) (kind : ParseErrorKind)
         → Encoded p name text out → IsNoText q name text kind → ⊥
-    taken_alike text out kind other first none =
+    taken_alike text out kind first none =
         let x = given text out first in
-        refused q also no_message name text kind other none x.0 x.1
+        refused q also no_message name text kind none x.0 x.1
 
     -- the message that bytes mean, and its text
     abbrev IsShown : Schema → (bytes text : List ℕ) → Type 0

@@ -1,10 +1,8 @@
 -- Files that were added to schemas in batches, and why files are no batch behind a schema's.
-use Rattle.std.specs.Prelude.{◌≡◌, ◌⊎◌, List, true, map, Contains}
+use Rattle.std.specs.Prelude.{◌⊎◌, List, map, Contains}
 use Rattle.descriptor_records.specs.Content.{FileContent, file_view}
 use Rattle.descriptor_records.specs.declared.file.FileDescriptorProto.{FileDescriptorProto}
 use Rattle.reflect_build.specs.Refusals.{AreTooMany, IsOf, Linking, new_files}
-use Rattle.reflect_passes.specs.Errors.{is_memory}
-use Rattle.reflect_passes.specs.declared.error.DescriptorError.{DescriptorError}
 use Rattle.reflect_tables.specs.Types.{PoolType}
 use Rattle.schema_core.specs.Refusals.{IsPool}
 use Rattle.schema_core.specs.declared.schema.Schema.{Schema}
@@ -36,6 +34,6 @@ abbrev pub AreUnlawful : (linked p : PoolType) → List FileDescriptorProto → 
 AreUnlawful linked p fs = (w : Linking) × IsOf p w × ((meanings : Meanings)
     → IsLawful (map file_view linked.records) (map file_view (new_files w.indexes fs)) meanings → ⊥)
 
--- so it is, or they are too many, or memory ran out
-abbrev pub AreNoBatch : (linked p : PoolType) → List FileDescriptorProto → DescriptorError → Type 0
-AreNoBatch linked p fs e = (is_memory e.first ≡ true) ⊎ (AreTooMany p fs ⊎ AreUnlawful linked p fs)
+-- so it is, or they are too many
+abbrev pub AreNoBatch : (linked p : PoolType) → List FileDescriptorProto → Type 0
+AreNoBatch linked p fs = AreTooMany p fs ⊎ AreUnlawful linked p fs

@@ -10,9 +10,7 @@ ghost use Rattle.reflect_bytes.specs.Spelled.{SpellsSet};
 ghost use Rattle.reflect_passes.specs.declared.error.DescriptorError.{DescriptorError};
 ghost use Rattle.reflect_wire.specs.Written.{AreBytes};
 ghost use Rattle.reflect_wire.specs.declared.wire_error.WireError.{WireError};
-ghost use Rattle.reflect_wire.specs.declared.wire_error.WireError.TheVariants.{Memory};
 ghost use Rattle.text_error.specs.declared.error.ParseErrorKind.{ParseErrorKind};
-ghost use Rattle.text_error.specs.declared.error.ParseErrorKind.TheVariants as kinds;
 ghost use Rattle.message_view.specs.Types.{types_of};
 ghost use Rattle.types_view.specs.Pools.{IsBuiltBut};
 ghost use Rattle.types_view.specs.Typed.{IsTyped};
@@ -46,14 +44,14 @@ pub fn added_sets_are_a_batch()
 
 /// Where sources are refused for how they link, the files that they are are no batch behind the
 /// schema's: those that it has not yet are not lawful there, whatever their references mean; or
-/// they are too many, or memory ran out. So lawful sources link.
+/// they are too many. So lawful sources link.
 pub fn sources_that_do_not_link_are_no_batch()
     ensures { (earlier : List (List FileContent)) (old : Schema)
         (sources : List (List ℕ × List ℕ)) (e : DescriptorError)
         → (is : IsBuiltBut earlier old.pool) → IsPool old.pool
         → SourcesRefused old.pool sources (Link e)
         → (files typed : List FileDescriptorProto) × AreFilesOf sources files
-        × TypedFiles files typed × AreNoBatch is.linked old.pool typed e }
+        × TypedFiles files typed × AreNoBatch is.linked old.pool typed }
 {}
 
 /// And so it is of descriptor sets.
@@ -62,7 +60,7 @@ pub fn sets_that_do_not_link_are_no_batch()
         (e : DescriptorError) → (is : IsBuiltBut earlier old.pool) → IsPool old.pool
         → SetRefused old.pool bytes (Link e)
         → (files typed : List FileDescriptorProto) × SpellsSet bytes files
-        × TypedFiles files typed × AreNoBatch is.linked old.pool typed e }
+        × TypedFiles files typed × AreNoBatch is.linked old.pool typed }
 {}
 
 /// Two schemas that the same files were added to, in whatever batches and order, have the same
@@ -81,11 +79,11 @@ pub fn schemas_of_the_same_files_recode_alike()
         → Recoded t.pool name bytes b → a ≡ b }
 {}
 
-/// Nor does the one refuse what the other recodes, unless memory runs out.
+/// Nor does the one refuse what the other recodes.
 pub fn schemas_of_the_same_files_accept_alike()
     ensures { (batches others : List (List FileContent)) (s t : Schema)
         → HaveSameFiles batches others s t
-        → (name bytes out : List ℕ) (e : WireError) → (e ≡ Memory → ⊥) → AreBytes bytes
+        → (name bytes out : List ℕ) (e : WireError) → AreBytes bytes
         → Recoded s.pool name bytes out → IsNoMessage t.pool name bytes e → ⊥ }
 {}
 
@@ -97,11 +95,11 @@ pub fn schemas_of_the_same_files_encode_alike()
         → a ≡ b }
 {}
 
-/// And the one refuses no text that the other encodes, unless memory runs out.
+/// And the one refuses no text that the other encodes.
 pub fn schemas_of_the_same_files_take_texts_alike()
     ensures { (batches others : List (List FileContent)) (s t : Schema)
         → HaveSameFiles batches others s t
-        → (name text out : List ℕ) (kind : ParseErrorKind) → (kind ≡ kinds.Memory → ⊥)
+        → (name text out : List ℕ) (kind : ParseErrorKind)
         → Encoded s.pool name text out → IsNoText t.pool name text kind → ⊥ }
 {}
 

@@ -14,16 +14,15 @@ ghost use Rattle.reflect_bytes.specs.Written.{pool_bytes};
 ghost use Rattle.reflect_pool.specs.Linked.{empty_pool};
 ghost use Rattle.reflect_wire.specs.Written.{AreBytes};
 ghost use Rattle.reflect_wire.specs.declared.wire_error.WireError.{WireError};
-ghost use Rattle.reflect_wire.specs.declared.wire_error.WireError.TheVariants as wire;
 ghost use Rattle.text_error.specs.declared.error.ParseErrorKind.{ParseErrorKind};
-ghost use Rattle.text_error.specs.declared.error.ParseErrorKind.TheVariants as kinds;
 ghost use Rattle.settled_again.specs.HeldOptions.{HoldsOptions};
 ghost use Rattle.text_view.specs.Schemas.{schema_of};
 ghost use Rattle.schema_core.specs.Payloads.{Decoded, Encoded, Recoded};
 ghost use Rattle.schema_core.specs.Refusals.{IsNoMessage, IsNoText, SetRefused, SourcesLinked};
 ghost use Rattle.schema_core.specs.declared.error.SchemaError.{SchemaError};
+ghost use Rattle.schema_core.specs.declared.error.SchemaError.TheVariants.{Memory};
 ghost use Rattle.schema_core.specs.declared.schema.Schema.{Schema};
-ghost use Rattle.schema_laws.specs.Detours.{IsDetour, TellsMemory};
+ghost use Rattle.schema_laws.specs.Detours.{IsDetour};
 ghost use Rattle.schema_laws.specs.Histories.{AdditionLinked, IsGrown, IsMadeBy, Sources};
 ghost use Rattle.schema_laws.specs.Histories.{of_sources};
 
@@ -45,7 +44,7 @@ pub fn schemas_of_sources_hold_their_options()
 pub fn own_sets_are_not_refused()
     ensures { (s : Schema) → IsGrown s → HoldsOptions s.pool
         → AreBytes (pool_bytes s.pool) → length (pool_bytes s.pool) < 2 ^ 64
-        → (e : SchemaError) → (TellsMemory e → ⊥) → SetRefused empty_pool (pool_bytes s.pool) e
+        → (e : SchemaError) → (e ≡ Memory → ⊥) → SetRefused empty_pool (pool_bytes s.pool) e
         → (files : List FileDescriptorProto)
         × (map file_view files ≡ map file_view s.pool.records) × AreTooMany empty_pool files }
 {}
@@ -63,31 +62,29 @@ pub fn own_sets_give_the_same_schema()
         → schema_of t.pool decoded ≡ schema_of s.pool decoded }
 {}
 
-/// So both recode bytes to the same, and neither refuses what the other recodes, unless memory runs
-/// out.
+/// So both recode bytes to the same, and neither refuses what the other recodes.
 pub fn schemas_of_own_sets_recode_alike()
     ensures same { (s t : Schema) → IsGrown s → IsDetour s t
         → (name bytes a b : List ℕ) → AreBytes bytes → Recoded s.pool name bytes a
         → Recoded t.pool name bytes b → a ≡ b }
     ensures first { (s t : Schema) → IsGrown s → IsDetour s t
-        → (name bytes out : List ℕ) (e : WireError) → (e ≡ wire.Memory → ⊥) → AreBytes bytes
+        → (name bytes out : List ℕ) (e : WireError) → AreBytes bytes
         → Recoded s.pool name bytes out → IsNoMessage t.pool name bytes e → ⊥ }
     ensures second { (s t : Schema) → IsGrown s → IsDetour s t
-        → (name bytes out : List ℕ) (e : WireError) → (e ≡ wire.Memory → ⊥) → AreBytes bytes
+        → (name bytes out : List ℕ) (e : WireError) → AreBytes bytes
         → Recoded t.pool name bytes out → IsNoMessage s.pool name bytes e → ⊥ }
 {}
 
-/// Both encode a text to the same bytes, and neither refuses one that the other encodes, unless
-/// memory runs out.
+/// Both encode a text to the same bytes, and neither refuses one that the other encodes.
 pub fn schemas_of_own_sets_encode_alike()
     ensures same { (s t : Schema) → IsGrown s → IsDetour s t
         → (name text a b : List ℕ) → Encoded s.pool name text a → Encoded t.pool name text b
         → a ≡ b }
     ensures first { (s t : Schema) → IsGrown s → IsDetour s t
-        → (name text out : List ℕ) (kind : ParseErrorKind) → (kind ≡ kinds.Memory → ⊥)
+        → (name text out : List ℕ) (kind : ParseErrorKind)
         → Encoded s.pool name text out → IsNoText t.pool name text kind → ⊥ }
     ensures second { (s t : Schema) → IsGrown s → IsDetour s t
-        → (name text out : List ℕ) (kind : ParseErrorKind) → (kind ≡ kinds.Memory → ⊥)
+        → (name text out : List ℕ) (kind : ParseErrorKind)
         → Encoded t.pool name text out → IsNoText s.pool name text kind → ⊥ }
 {}
 

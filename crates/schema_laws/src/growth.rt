@@ -3,7 +3,6 @@
 ghost use Rattle.std.specs.Prelude.{◌≡◌, ◌++◌, ℕ, List};
 ghost use Rattle.descriptor_records.specs.Content.{FileContent};
 ghost use Rattle.text_error.specs.declared.error.ParseErrorKind.{ParseErrorKind};
-ghost use Rattle.text_error.specs.declared.error.ParseErrorKind.TheVariants.{Memory};
 ghost use Rattle.types_view.specs.Typed.{IsTyped};
 ghost use Rattle.schema_core.specs.Payloads.{Encoded};
 ghost use Rattle.schema_core.specs.Refusals.{IsNoText, IsPool, IsUnknown};
@@ -11,8 +10,7 @@ ghost use Rattle.schema_core.specs.declared.schema.Schema.{Schema};
 ghost use Rattle.schema_laws.specs.Batches.{Grows};
 
 /// What a schema encoded a text to it encodes it to after any number of further batches, and it
-/// refuses no text that it encoded: the type is still known, and the text is one of it, unless
-/// memory runs out.
+/// refuses no text that it encoded: the type is still known, and the text is one of it.
 pub fn encoded_texts_stay_as_batches_come()
     ensures same { (earlier more : List (List FileContent)) (old new : Schema)
         → IsTyped earlier old.pool → IsTyped (more ++ earlier) new.pool
@@ -21,8 +19,7 @@ pub fn encoded_texts_stay_as_batches_come()
     ensures taken { (earlier more : List (List FileContent)) (old new : Schema)
         → IsTyped earlier old.pool → IsTyped (more ++ earlier) new.pool
         → IsPool old.pool → IsPool new.pool → (name text out : List ℕ) (kind : ParseErrorKind)
-        → (kind ≡ Memory → ⊥) → Encoded old.pool name text out
-        → IsNoText new.pool name text kind → ⊥ }
+        → Encoded old.pool name text out → IsNoText new.pool name text kind → ⊥ }
     ensures known { (earlier more : List (List FileContent)) (old new : Schema)
         → IsTyped earlier old.pool → IsTyped (more ++ earlier) new.pool
         → IsPool old.pool → IsPool new.pool → (name text out : List ℕ)
@@ -36,7 +33,7 @@ pub fn encoded_texts_stay_as_files_come()
         → Encoded old.pool name text a → Encoded new.pool name text b → a ≡ b }
     ensures taken { (earlier : List (List FileContent)) (old new : Schema)
         → IsTyped earlier old.pool → Grows old new
-        → (name text out : List ℕ) (kind : ParseErrorKind) → (kind ≡ Memory → ⊥)
+        → (name text out : List ℕ) (kind : ParseErrorKind)
         → Encoded old.pool name text out → IsNoText new.pool name text kind → ⊥ }
     ensures known { (earlier : List (List FileContent)) (old new : Schema)
         → IsTyped earlier old.pool → Grows old new → (name text out : List ℕ)

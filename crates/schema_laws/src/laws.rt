@@ -10,7 +10,6 @@ ghost use Rattle.protobuf_model.specs.Values.{Message};
 ghost use Rattle.reflect_pool.specs.Dots.{without_dot};
 ghost use Rattle.reflect_wire.specs.Written.{AreBytes};
 ghost use Rattle.reflect_wire.specs.declared.wire_error.WireError.{WireError};
-ghost use Rattle.reflect_wire.specs.declared.wire_error.WireError.TheVariants.{Memory};
 ghost use Rattle.message_view.specs.Sound.{IsSound};
 ghost use Rattle.message_view.specs.Types.{types_of};
 ghost use Rattle.schema_core.specs.Payloads.{Decoded, Recoded};
@@ -30,9 +29,9 @@ pub fn decoded_bytes_are_accepted()
         → IsAccepted (types_of s.pool) (without_dot name) bytes }
 {}
 
-/// The type accepts no bytes that a schema refuses as a message of it, but for want of memory.
+/// The type accepts no bytes that a schema refuses as a message of it.
 pub fn refused_bytes_are_not_accepted()
-    ensures { (s : Schema) (name bytes : List ℕ) (e : WireError) → (e ≡ Memory → ⊥)
+    ensures { (s : Schema) (name bytes : List ℕ) (e : WireError)
         → IsNoMessage s.pool name bytes e
         → IsAccepted (types_of s.pool) (without_dot name) bytes → ⊥ }
 {}
@@ -57,6 +56,20 @@ pub fn recoded_bytes_stay()
     ensures { (s : Schema) (name bytes out again : List ℕ) → AreBytes bytes → AreBytes out
         → Recoded s.pool name bytes out → length out < 2 ^ 64 → Recoded s.pool name out again
         → again ≡ out }
+{}
+
+/// An older schema refuses no bytes, as a message of its type, that a newer one decodes or recodes.
+pub fn older_schemas_take_what_newer_ones_take()
+    ensures decoded { (old new : SchemaType)
+        → IsOlder (types_of old.0.pool) (without_dot old.1)
+        (types_of new.0.pool) (without_dot new.1)
+        → (bytes text : List ℕ) → AreBytes bytes → Decoded new.0.pool new.1 bytes text
+        → (e : WireError) → IsNoMessage old.0.pool old.1 bytes e → ⊥ }
+    ensures recoded { (old new : SchemaType)
+        → IsOlder (types_of old.0.pool) (without_dot old.1)
+        (types_of new.0.pool) (without_dot new.1)
+        → (bytes out : List ℕ) → AreBytes bytes → Recoded new.0.pool new.1 bytes out
+        → (e : WireError) → IsNoMessage old.0.pool old.1 bytes e → ⊥ }
 {}
 
 /// What an older schema recodes means to the newer what the bytes do.

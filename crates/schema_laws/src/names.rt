@@ -8,7 +8,6 @@ ghost use Rattle.reflect_pool.specs.Dots.{without_dot};
 ghost use Rattle.reflect_pool.specs.Linked.{empty_pool};
 ghost use Rattle.reflect_wire.specs.Written.{AreBytes};
 ghost use Rattle.text_error.specs.declared.error.ParseErrorKind.{ParseErrorKind};
-ghost use Rattle.text_error.specs.declared.error.ParseErrorKind.TheVariants.{Memory};
 ghost use Rattle.text_view.specs.Schemas.{schema_of};
 ghost use Rattle.linked_names.specs.SourcePools.{IsSourcePool};
 ghost use Rattle.schema_core.specs.Payloads.{Decoded, Encoded};
@@ -42,5 +41,5 @@ pub fn schemas_of_sources_read_what_they_print()
         → IsSourcePool s.pool → (name text out reprint : List ℕ) → AreBytes text
         → Encoded s.pool name text out → length out < 2 ^ 64 → Decoded s.pool name out reprint
         → IsShallow (schema_of s.pool decoded) (without_dot name) text
-        → (kind : ParseErrorKind) → (kind ≡ Memory → ⊥) → IsNoText s.pool name reprint kind → ⊥ }
+        → (kind : ParseErrorKind) → IsNoText s.pool name reprint kind → ⊥ }
 {}

@@ -11,7 +11,6 @@ ghost use Rattle.protobuf_model.specs.Values.{Message};
 ghost use Rattle.reflect_pool.specs.Dots.{without_dot};
 ghost use Rattle.reflect_wire.specs.Written.{AreBytes};
 ghost use Rattle.text_error.specs.declared.error.ParseErrorKind.{ParseErrorKind};
-ghost use Rattle.text_error.specs.declared.error.ParseErrorKind.TheVariants.{Memory};
 ghost use Rattle.text_model.specs.Plain.{IsPlain};
 ghost use Rattle.text_model.specs.Printed.{printed};
 ghost use Rattle.text_model.specs.Rendered.{compact};
@@ -34,10 +33,10 @@ pub fn encoded_texts_give_their_messages()
         × (out ≡ bytes_of (types_of s.pool) (without_dot name) m) }
 {}
 
-/// A text that a schema refuses as one of a known type gives no message, unless memory ran out.
+/// A text that a schema refuses as one of a known type gives no message.
 pub fn refused_texts_give_no_message()
     ensures { (s : Schema) (decoded : Name → List ℕ → Option Message) (name text : List ℕ)
-        (kind : ParseErrorKind) → (kind ≡ Memory → ⊥) → IsNoText s.pool name text kind
+        (kind : ParseErrorKind) → IsNoText s.pool name text kind
         → (m : Message) → Gives (schema_of s.pool decoded) (without_dot name) text m → ⊥ }
 {}
 
@@ -68,7 +67,7 @@ pub fn printed_texts_encode_to_the_recoded_bytes()
         → Encoded s.pool name text again → again ≡ out }
 {}
 
-/// And it is not refused as a text of the type, unless memory runs out.
+/// And it is not refused as a text of the type.
 pub fn printed_texts_are_taken()
     ensures { (s : Schema) (decoded : Name → List ℕ → Option Message)
         → HasSourceNames s.pool → (name bytes text : List ℕ) → AreBytes bytes
@@ -76,7 +75,7 @@ pub fn printed_texts_are_taken()
         → (m : Message) → Mean (types_of s.pool) (without_dot name) bytes m
         → IsPlain (types_of s.pool) (without_dot name) m
         → open_braces (printed own_form (schema_of s.pool decoded) (without_dot name) m) ≤ 100
-        → (kind : ParseErrorKind) → (kind ≡ Memory → ⊥) → IsNoText s.pool name text kind → ⊥ }
+        → (kind : ParseErrorKind) → IsNoText s.pool name text kind → ⊥ }
 {}
 
 /// What a schema encodes, its type accepts, and it means the message that the text gives, where it
@@ -89,8 +88,8 @@ pub fn encoded_bytes_are_accepted()
 {}
 
 /// Where names are spelled as in sources, what a schema prints of the bytes that it encoded a text
-/// to encodes to these bytes again, and is not refused unless memory runs out, if no more than 100
-/// braces are open in it at once.
+/// to encodes to these bytes again, and is not refused, if no more than 100 braces are open in it at
+/// once.
 pub fn reprinted_texts_encode_to_the_same_bytes()
     ensures same { (s : Schema) (decoded : Name → List ℕ → Option Message)
         → HasSourceNames s.pool → (name text out reprint again : List ℕ) → AreBytes text
@@ -101,5 +100,5 @@ pub fn reprinted_texts_encode_to_the_same_bytes()
         → HasSourceNames s.pool → (name text out reprint : List ℕ) → AreBytes text
         → Encoded s.pool name text out → length out < 2 ^ 64 → Decoded s.pool name out reprint
         → IsShallow (schema_of s.pool decoded) (without_dot name) text
-        → (kind : ParseErrorKind) → (kind ≡ Memory → ⊥) → IsNoText s.pool name reprint kind → ⊥ }
+        → (kind : ParseErrorKind) → IsNoText s.pool name reprint kind → ⊥ }
 {}

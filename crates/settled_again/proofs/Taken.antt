@@ -1,5 +1,5 @@
 -- Options that are held as sources' are, in the records of a pool that was linked once more, are not
--- refused, unless memory runs out.
+-- refused.
 use Rattle.std.proofs.Common.{◌≡◌, ◌+◌, ℕ, List, [], ◌∷◌, map, Option, Some, slice_get, inl, inr, sym, subst}
 use Rattle.std.specs.List.{AllByRecursion}
 use Rattle.descriptor_records.specs.Content.{FileContent, file_view, options_view}
@@ -11,7 +11,6 @@ use Rattle.message_view.specs.Types.{types_of}
 use Rattle.option_parts.specs.OptionTypes.{CanRead}
 use Rattle.option_parts.specs.TypedOptions.{TypedFiles}
 use Rattle.option_parts.specs.declared.option_error.OptionErrorKind.{OptionErrorKind}
-use Rattle.option_parts.specs.declared.option_error.OptionErrorKind.TheVariants.{UndecodableOptions}
 use Rattle.option_parts.specs.declared.option_scope.OptionScope.{OptionScope}
 use Rattle.option_setter.specs.declared.option_setter.NameScope.{NameScope}
 use Rattle.plain_records.specs.PlainRecords.{ArePlainFiles}
@@ -24,7 +23,6 @@ use Rattle.reflect_options.specs.Settling.{RefusesAtPlace}
 use Rattle.reflect_pool.specs.Linked.{empty_pool}
 use Rattle.reflect_tables.specs.Types.{PoolType}
 use Rattle.reflect_wire.specs.Written.{AreBytes}
-use Rattle.reflect_wire.specs.declared.wire_error.WireError.TheVariants.{Memory}
 use Rattle.settled_records.proofs.OfEntities.{Meets}
 use Rattle.settled_records.proofs.PlainOptions.{said}
 use Rattle.settled_view.proofs.Built.{itself}
@@ -41,8 +39,8 @@ use Rattle.settled_again.specs.HeldOptions.{HoldsOptions, ReadsAlike}
 module _ (p linked : PoolType) (types : types_of linked ≡ types_of p) (sound : IsSound linked) (can : (scope : OptionScope) → CanRead linked scope) where
   -- an entity's options
   options_taken : (scope : OptionScope) (s : NameScope) (o : Options) (at : Option ℕ) (e : OptionErrorKind) → s.pool.now ≡ linked
-      → Keeps p scope (options_view o) → (e ≡ UndecodableOptions (Some Memory) → ⊥) → RefusesOptions scope s o at e → ⊥
-  options_taken scope s o at e is keeps other refused = elim (keeps.0 keeps.1.0) [
+      → Keeps p scope (options_view o) → RefusesOptions scope s o at e → ⊥
+  options_taken scope s o at e is keeps refused = elim (keeps.0 keeps.1.0) [
     | inl stored ↦ by (stored.1.0, subst (λ types. AreStored types scope stored.1.0 o.encoded.items) (sym types) stored.1.1) refused
     | inr given ↦ elim refused [
       | inl forbidden ↦ absurd (none_forbidden at e forbidden)
@@ -67,16 +65,16 @@ module _ (p linked : PoolType) (types : types_of linked ≡ types_of p) (sound :
       by : (m : Message) × AreStored (types_of linked) scope m o.encoded.items → RefusesOptions scope s o at e → ⊥
       by (m, stored) h =
           stored_not_refused scope s o at e m (subst IsSound (sym is) sound) (subst (λ q. CanRead q scope) (sym is) (can scope)) keeps.1.0
-          (subst (λ q. AreStored (types_of q) scope m o.encoded.items) (sym is) stored) keeps.1.1 other h
+          (subst (λ q. AreStored (types_of q) scope m o.encoded.items) (sym is) stored) keeps.1.1 h
 
 -- those of the files of the pool that linking made
 pub not_refused : (batches : List (List FileContent)) (p linked : PoolType) (files typed : List FileDescriptorProto) (t : IsTyped batches p) → IsKept p
     → ArePlainFiles SaysAndIsSettled (map file_view p.records) → HoldsOptions p → ReadsAlike t.but.linked p → ArePlainFiles (λ scope o. AreBytes o.encoded) (map file_view p.records)
     → map file_view files ≡ map file_view p.records → TypedFiles files typed → FaultlessFiles empty_pool typed linked → IsPool linked → IsSound linked
-    → ((scope : OptionScope) → CanRead linked scope) → (place : Place) (e : OptionErrorKind) → (e ≡ UndecodableOptions (Some Memory) → ⊥) → RefusesAtPlace linked 0 place e → ⊥
-not_refused batches p linked files typed t kept plain held alike bytes same copied faultless whole sound can place e other
+    → ((scope : OptionScope) → CanRead linked scope) → (place : Place) (e : OptionErrorKind) → RefusesAtPlace linked 0 place e → ⊥
+not_refused batches p linked files typed t kept plain held alike bytes same copied faultless whole sound can place e
     (n, es, f, before, there, (front, back, c, own, ms, is, settles, (o, s, at, has, scope, refused, path)), placed) =
     let types = types_again batches p linked linked files typed t kept plain alike same copied faultless (itself linked) whole in
     let all = entities_again batches p linked linked files typed t kept plain alike same copied faultless (itself linked) whole held bytes (0 + n) f there in
     let rest = all_split (Meets (λ file. said (Keeps p))) front (c ∷ back) (subst (AllByRecursion (Meets (λ file. said (Keeps p)))) is all) in
-    options_taken p linked types sound can c.scope s o at e scope.pool (rest.1.0 o has) other refused
+    options_taken p linked types sound can c.scope s o at e scope.pool (rest.1.0 o has) refused

@@ -1,7 +1,7 @@
 //! Laws of the records of pools that files were linked into and settled, each the contract of a
 //! function that does nothing. What is asked of pools beside this each pool has, as
 //! `pools_are_whole` says.
-ghost use Rattle.std.specs.Prelude.{◌≡◌, ◌∷◌, ℕ, List, Option, Some, length, map};
+ghost use Rattle.std.specs.Prelude.{◌≡◌, ◌∷◌, ℕ, List, Option, length, map};
 ghost use Rattle.descriptor_records.specs.Content.{FileContent, file_view};
 ghost use Rattle.descriptor_records.specs.declared.file.FileDescriptorProto.{FileDescriptorProto};
 ghost use Rattle.message_view.specs.Sound.{IsSound};
@@ -9,7 +9,6 @@ ghost use Rattle.message_view.specs.Types.{types_of};
 ghost use Rattle.option_parts.specs.OptionTypes.{CanRead};
 ghost use Rattle.option_parts.specs.TypedOptions.{TypedFiles};
 ghost use Rattle.option_parts.specs.declared.option_error.OptionErrorKind.{OptionErrorKind};
-ghost use Rattle.option_parts.specs.declared.option_error.OptionErrorKind.TheVariants.{UndecodableOptions};
 ghost use Rattle.option_parts.specs.declared.option_scope.OptionScope.{OptionScope};
 ghost use Rattle.plain_records.specs.PlainRecords.{ArePlainFiles};
 ghost use Rattle.plain_records.specs.SaidOptions.{SaysAndIsSettled};
@@ -23,7 +22,6 @@ ghost use Rattle.reflect_pool.specs.Linked.{empty_pool};
 ghost use Rattle.reflect_tables.specs.Types.{PoolType};
 ghost use Rattle.reflect_names.specs.Faults.{Place};
 ghost use Rattle.reflect_wire.specs.Written.{AreBytes};
-ghost use Rattle.reflect_wire.specs.declared.wire_error.WireError.TheVariants.{Memory};
 ghost use Rattle.settled_again.specs.HeldOptions.{HoldsOptions, ReadsAlike};
 ghost use Rattle.settled_view.specs.BuiltBut.{ChangesOptions};
 ghost use Rattle.stored_options.specs.CopiedOptions.{ReadsItsBytes};
@@ -89,8 +87,8 @@ pub fn held_records_link_and_settle_to_themselves()
         → (decoded : Name → List ℕ → Option Message) → schema_of new decoded ≡ schema_of p decoded }
 {}
 
-/// Nor are their options refused in the pool that linking makes, unless memory runs out, where it
-/// has types to read options by.
+/// Nor are their options refused in the pool that linking makes, where it has types to read options
+/// by.
 pub fn held_options_are_not_refused()
     ensures { (batches : List (List FileContent)) (p linked : PoolType)
         (files typed : List FileDescriptorProto) (t : IsTyped batches p) → IsKept p
@@ -100,6 +98,6 @@ pub fn held_options_are_not_refused()
         → map file_view files ≡ map file_view p.records → TypedFiles files typed
         → FaultlessFiles empty_pool typed linked → IsPool linked → IsSound linked
         → ((scope : OptionScope) → CanRead linked scope)
-        → (place : Place) (e : OptionErrorKind) → (e ≡ UndecodableOptions (Some Memory) → ⊥)
+        → (place : Place) (e : OptionErrorKind)
         → RefusesAtPlace linked 0 place e → ⊥ }
 {}

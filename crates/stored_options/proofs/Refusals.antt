@@ -1,4 +1,4 @@
--- Stored options are not refused, but for want of memory.
+-- Stored options are not refused.
 use Rattle.std.proofs.Common.{◌≡◌, inl, inr, ℕ, ℤ, false, List, [], Option, None, Some, refl, sym, ap, ◌∙◌, subst}
 use Rattle.std.specs.Option.{unwrap_or}
 use Rattle.std.specs.Prelude.{IfSome, codes, slice_get}
@@ -74,10 +74,10 @@ module _ (scope : OptionScope) (s : NameScope) (o : Options) (m : Message) (soun
         ap (λ t. unwrap_or t false)
         (stored_truth n (type_sound scope s n.descriptor type sound) o.encoded.items spelled_so 7 (codes "map_entry") has says.0.fields says.0.spelled says.0.options.map_entry said ∙ ap (λ (c : OptionsContent). c.map_entry) says.0.is)
 
-    refuses_stored : (c : OptionScope) → scope ≡ c → (e : OptionErrorKind) → (e ≡ kinds.UndecodableOptions (Some errors.Memory) → ⊥) → RefusesStored c d o e → ⊥
-    refuses_stored c is (kinds.UndecodableOptions (Some w)) other h = refuses_none w (λ same. other (ap (λ w. kinds.UndecodableOptions (Some w)) same)) h
-    refuses_stored scopes.Message is (kinds.UndecodableOptions None) other h = h.3 (agrees is h.0 h.1 h.2)
-    refuses_stored c is e other h = absurd h
+    refuses_stored : (c : OptionScope) → scope ≡ c → (e : OptionErrorKind) → RefusesStored c d o e → ⊥
+    refuses_stored c is (kinds.UndecodableOptions (Some w)) h = refuses_none w h.0 h.1
+    refuses_stored scopes.Message is (kinds.UndecodableOptions None) h = h.3 (agrees is h.0 h.1 h.2)
+    refuses_stored c is e h = absurd h
 
     -- it is written in the same bytes
     module _ (whole : DynamicMessage) (paths : List (List ℤ)) (is : IsWhole scope s d o whole paths) where
@@ -86,24 +86,24 @@ module _ (scope : OptionScope) (s : NameScope) (o : Options) (m : Message) (soun
           subst (λ bytes. TellsWhy d bytes w) (same_bytes scope s o paths m sound can are formed left d its whole is)
           (subst (λ (d : MessageDescriptor). TellsWhy d (message_bytes whole) w) (same_type scope s o paths m sound can are formed left d its whole is) h)
 
-      refuses_written : (e : OptionErrorKind) → (e ≡ kinds.UndecodableOptions (Some errors.Memory) → ⊥) → RefusesWritten whole e → ⊥
-      refuses_written kinds.OptionTooDeep other h = refuses_none errors.TooDeep (λ same. absurd (cc same)) (moved errors.TooDeep h)
-      refuses_written (kinds.UndecodableOptions (Some w)) other h = refuses_none w (λ same. other (ap (λ w. kinds.UndecodableOptions (Some w)) same)) (moved w h)
-      refuses_written e other h = absurd h
+      refuses_written : (e : OptionErrorKind) → RefusesWritten whole e → ⊥
+      refuses_written kinds.OptionTooDeep h = refuses_none errors.TooDeep (λ same. absurd (cc same)) (moved errors.TooDeep h)
+      refuses_written (kinds.UndecodableOptions (Some w)) h = refuses_none w h.0 (moved w h.1)
+      refuses_written e h = absurd h
 
-    refuses_typed : (at : Option ℕ) (e : OptionErrorKind) → (e ≡ kinds.UndecodableOptions (Some errors.Memory) → ⊥) → RefusesTyped scope s d o at e → ⊥
-    refuses_typed None e other (inl h) = refuses_stored scope refl e other h
-    refuses_typed None e other (inr (whole, paths, is, h)) = refuses_written whole paths is e other h
-    refuses_typed (Some place) e other (stored, is, (x, front, paths, there, sets, parts, tells)) = none_there place o.uninterpreted_option.items x left there
+    refuses_typed : (at : Option ℕ) (e : OptionErrorKind) → RefusesTyped scope s d o at e → ⊥
+    refuses_typed None e (inl h) = refuses_stored scope refl e h
+    refuses_typed None e (inr (whole, paths, is, h)) = refuses_written whole paths is e h
+    refuses_typed (Some place) e (stored, is, (x, front, paths, there, sets, parts, tells)) = none_there place o.uninterpreted_option.items x left there
 
-  not_refused : (at : Option ℕ) (e : OptionErrorKind) → (e ≡ kinds.UndecodableOptions (Some errors.Memory) → ⊥) → RefusesOptions scope s o at e → ⊥
-  not_refused at e other (inl h) =
+  not_refused : (at : Option ℕ) (e : OptionErrorKind) → RefusesOptions scope s o at e → ⊥
+  not_refused at e (inl h) =
       let x = forbidden_there scope o at e h in
       none_there x.0 o.uninterpreted_option.items x.1 left x.2
-  not_refused at e other (inr (finds, inl lacks)) = lacks.1 left
-  not_refused at e other (inr (finds, inr (d, its, why))) = refuses_typed d its at e other why
+  not_refused at e (inr (finds, inl lacks)) = lacks.1 left
+  not_refused at e (inr (finds, inr (d, its, why))) = refuses_typed d its at e why
 
 pub stored_not_refused : (scope : OptionScope) (s : NameScope) (o : Options) (at : Option ℕ) (e : OptionErrorKind) (m : Message) → IsSound s.pool.now
     → CanRead s.pool.now scope → AreBytes o.encoded.items
-    → AreStored (types_of s.pool.now) scope m o.encoded.items → SaysAndIsSettled scope (options_view o) → (e ≡ kinds.UndecodableOptions (Some errors.Memory) → ⊥) → RefusesOptions scope s o at e → ⊥
-stored_not_refused scope s o at e m sound can are formed says other h = not_refused scope s o m sound can are formed says at e other h
+    → AreStored (types_of s.pool.now) scope m o.encoded.items → SaysAndIsSettled scope (options_view o) → RefusesOptions scope s o at e → ⊥
+stored_not_refused scope s o at e m sound can are formed says h = not_refused scope s o m sound can are formed says at e h

@@ -1,12 +1,11 @@
 //! Laws of the bytes that options are stored in, each the contract of a function that does nothing.
-ghost use Rattle.std.specs.Prelude.{◌≡◌, ℕ, List, [], ℤ, Option, Some};
+ghost use Rattle.std.specs.Prelude.{◌≡◌, ℕ, List, [], ℤ, Option};
 ghost use Rattle.descriptor_records.specs.Content.{OptionsContent, options_view};
 ghost use Rattle.descriptor_records.specs.declared.options.Options.{Options};
 ghost use Rattle.message_view.specs.Sound.{IsSound};
 ghost use Rattle.message_view.specs.Types.{types_of};
 ghost use Rattle.option_parts.specs.OptionTypes.{CanRead, ReadsOptions};
 ghost use Rattle.option_parts.specs.declared.option_error.OptionErrorKind.{OptionErrorKind};
-ghost use Rattle.option_parts.specs.declared.option_error.OptionErrorKind.TheVariants.{UndecodableOptions};
 ghost use Rattle.option_parts.specs.declared.option_scope.OptionScope.{OptionScope};
 ghost use Rattle.option_setter.specs.declared.option_setter.NameScope.{NameScope};
 ghost use Rattle.plain_records.specs.SaidOptions.{IsSettled, SaysAndIsSettled, SaysItsBytes};
@@ -15,7 +14,6 @@ ghost use Rattle.protobuf_model.specs.Values.{Message};
 ghost use Rattle.reflect_options.specs.Settled.{RefusesOptions, Settles};
 ghost use Rattle.reflect_tables.specs.Types.{PoolType};
 ghost use Rattle.reflect_wire.specs.Written.{AreBytes};
-ghost use Rattle.reflect_wire.specs.declared.wire_error.WireError.TheVariants.{Memory};
 ghost use Rattle.stored_options.specs.CopiedOptions.{AreCopied, ReadsItsBytes};
 ghost use Rattle.stored_options.specs.StoredOptions.{AreStored};
 ghost use Rattle.text_view.specs.SourceNames.{HaveOwnNames};
@@ -69,11 +67,10 @@ pub fn stored_options_settle_to_themselves()
         → (options_view settled ≡ options_view o) × (paths ≡ []) }
 {}
 
-/// Nor are they refused, but for want of memory.
+/// Nor are they refused.
 pub fn stored_options_are_not_refused()
     ensures { (scope : OptionScope) (s : NameScope) (o : Options) (at : Option ℕ)
         (e : OptionErrorKind) (m : Message) → IsSound s.pool.now → CanRead s.pool.now scope
         → AreBytes o.encoded.items → AreStored (types_of s.pool.now) scope m o.encoded.items
-        → SaysAndIsSettled scope (options_view o)
-        → (e ≡ UndecodableOptions (Some Memory) → ⊥) → RefusesOptions scope s o at e → ⊥ }
+        → SaysAndIsSettled scope (options_view o) → RefusesOptions scope s o at e → ⊥ }
 {}

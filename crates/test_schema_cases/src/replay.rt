@@ -18,23 +18,12 @@ use test_json::members::{bytes, items, number, text, truth};
 use test_messages::tell_merged;
 use test_sources::tell_case_of_sources;
 
-/// A schema that a case builds.
-struct Built {
-    schema: Schema,
-}
-
-impl Drop for Built {
-    fn drop(self) {
-        let Built { schema: _ } = self;
-    }
-}
-
 /// What cases build for later ones.
 pub struct Replay {
     alloc: Global,
     /// The text of the `descriptor.proto` of schemas with option types.
     descriptor: String,
-    schemas: BTreeMap<u64, Built>,
+    schemas: BTreeMap<u64, Schema>,
 }
 
 impl Drop for Replay {
@@ -64,7 +53,7 @@ impl Replay {
             "schema" => self.build(case, told),
             "reread" => self.reread(case, told),
             op => match self.schemas.get(&number(case, "schema")) {
-                Some(built) => tell_of_schema(alloc, op, &built.schema, case, told),
+                Some(schema) => tell_of_schema(alloc, op, schema, case, told),
                 None => tell_case_of_sources(alloc, case, told),
             },
         }
@@ -81,17 +70,17 @@ impl Replay {
     }
 
     /// Keeps a schema under the case's number.
-    fn keep(&mut self, case: &Value, built: Built, told: &mut Told<'_>) {
-        if self.schemas.insert(number(case, "id"), built).is_err() {
+    fn keep(&mut self, case: &Value, schema: Schema, told: &mut Told<'_>) {
+        if self.schemas.insert(number(case, "id"), schema).is_err() {
             told.give_up();
         }
     }
 
     /// Builds a schema of the case's steps. It is kept also where the last of them is refused.
     fn build(&mut self, case: &Value, told: &mut Told<'_>) {
-        let mut built = bare(self.alloc);
-        self.take_steps(&mut built.schema, case, told);
-        self.keep(case, built, told);
+        let mut schema = Schema::bare(self.alloc);
+        self.take_steps(&mut schema, case, told);
+        self.keep(case, schema, told);
     }
 
     /// Takes the case's steps, with no types of options or with those of the descriptor that is
@@ -113,7 +102,7 @@ impl Replay {
         let Some(other) = self.schemas.get(&number(case, "schema")) else {
             return;
         };
-        match other.schema.to_descriptor_set() {
+        match other.to_descriptor_set() {
             Ok(set) => self.read_again(set.as_slice(), case, told),
             Err(_) => told.give_up(),
         }
@@ -121,9 +110,9 @@ impl Replay {
 
     /// Reads a set, and keeps what is read under the case's number.
     fn read_again(&mut self, set: &[u8], case: &Value, told: &mut Told<'_>) {
-        let mut built = bare(self.alloc);
-        tell_read(self.alloc, &mut built.schema, set, told);
-        self.keep(case, built, told);
+        let mut schema = Schema::bare(self.alloc);
+        tell_read(self.alloc, &mut schema, set, told);
+        self.keep(case, schema, told);
     }
 }
 
@@ -141,12 +130,6 @@ fn tell_read(alloc: Global, place: &mut Schema, set: &[u8], told: &mut Told<'_>)
             },
         );
     }
-}
-
-/// A schema without files.
-fn bare(alloc: Global) -> Built {
-    let schema = Schema::bare(alloc);
-    Built { schema }
 }
 
 /// Puts a schema that was made into the place, or tells why there is none.

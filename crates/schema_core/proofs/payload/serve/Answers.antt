@@ -1,10 +1,10 @@
 use Rattle.std.proofs.Common.{refl, ◌∙◌, subst, string_bytes, IsUtf8}
 use Rattle.schema_core.specs.Payloads.{Decoded, Encoded, Recoded}
 use Rattle.std.proofs.lemmas.Result.{err_from_is_err_and}
-use Rattle.schema_core.specs.Refusals.{BytesRefused}
+use Rattle.schema_core.specs.Refusals.{BytesRefused, TextRefused}
 use Rattle.schema_core.specs.Serving.{Answers, RefusesInput, of_schema, shown}
 use Rattle.schema_core.proofs.Answered.{answered}
-use Rattle.schema_core.proofs.Refused.{of_payload, refused_input}
+use Rattle.schema_core.proofs.Refused.{of_input, of_payload, refused_input}
 use Rattle.schema_core.proofs.payload.serve.Goals as goal
 
 pub returns-in_ok-bytes-in-Encode-clause-answered : goal.returns-in_ok-bytes-in-Encode-clause-answered
@@ -25,6 +25,18 @@ returns-in_ok-bytes-in-Recode-2-clause-answered g c =
     let recoded = c.in_ok-bytes-in-Recode-2 in
     answered (Answers c.args.action c.args.schema.now.pool c.args.type_name.now c.args.is_hex) _ _ _ _ c.in_ok-input.input.items (shown c.args.is_hex recoded.bytes.items) c.in_ok-input.ensures.bytes
     (rw c.in-Recode.is (bytes.bytes.items, bytes.ensures.ok, (recoded.bytes.items, subst (λ b. Recoded c.args.schema.now.pool c.args.type_name.now b recoded.bytes.items) c.as_slice-in-Recode.ensures.value recoded.ensures.ok, refl))) (rw c.as_slice-in-Recode-2.ensures.value at c.write_bytes-in-Recode.ensures.ok)
+
+pub returns-in_err-bytes-in-Encode-clause-refused : goal.returns-in_err-bytes-in-Encode-clause-refused
+returns-in_err-bytes-in-Encode-clause-refused g c =
+    let pool = c.args.schema.now.pool in
+    let name = c.args.type_name.now in
+    let text = c.in_ok-utf8-in-Encode.ensures.ok in
+    let failed = c.in_err-bytes-in-Encode in
+    let r = c.from_residual-in_err-bytes-in-Encode in
+    let p = err_from_is_err_and r.result r.ensures.1 in
+    let refused = subst (λ z. TextRefused pool name z failed.field-0.0) (text.0 ∙ c.as_slice.ensures.value) failed.ensures.err in
+    rw (p.1, p.2) (refused_input (RefusesInput c.args.action pool name c.args.is_hex) _ c.in_ok-input.input.items (of_schema failed.field-0.0) c.in_ok-input.ensures.bytes
+    (rw c.in-Encode.is (of_input pool name c.args.is_hex c.in_ok-input.input.items failed.field-0.0 refused)))
 
 pub returns-in_err-decode-in-Decode-clause-refused : goal.returns-in_err-decode-in-Decode-clause-refused
 returns-in_err-decode-in-Decode-clause-refused g c =

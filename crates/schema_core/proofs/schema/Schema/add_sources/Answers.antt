@@ -7,7 +7,7 @@ pub returns-in_err-parse-clause-err : goal.returns-in_err-parse-clause-err
 returns-in_err-parse-clause-err c =
     let p = err_from_is_err_and c.from_residual.result c.from_residual.ensures.1 in
     let i = c.loop-source.source-index in
-    rw (p.1, p.2) (of_refused c.args.self.now.pool c.args.sources.now i _ c.loop-source.files.items c.in_err-parse.field-0.0 (lent c.args.sources.now i _ c.loop-source-test.true) c.loop-source.invariant c.in_err-parse.ensures.refused c.in_err-parse.ensures.answered)
+    rw (p.1, p.2) (of_refused c.args.self.now.pool c.args.sources.now i _ c.loop-source.files.items c.in_err-parse.field-0.0 (lent c.args.sources.now i _ c.loop-source-test.true) c.loop-source.invariant c.in_err-parse.ensures.refused c.in_err-parse.ensures.too_large c.in_err-parse.ensures.answered)
 
 pub returns-clause-linked : goal.returns-clause-linked
 returns-clause-linked c =
