@@ -1,6 +1,6 @@
 -- What the value of an option says to a field of a kind (protobuf.dev, "Language Guide (proto 2)",
 -- Custom Options).
-use Rattle.std.specs.Prelude.{◌≡◌, ◌^◌, ℕ, ℤ, pos, negsuc, cond, nat_lt, List, Option, None, Some, option_map}
+use Rattle.std.specs.Prelude.{◌≡◌, ◌≢◌, ◌^◌, ℕ, ℤ, pos, negsuc, cond, nat_lt, List, Option, None, Some, option_map}
 use Rattle.std.specs.Option.{option_and_then}
 use Rattle.descriptor_records.specs.Content.{OptionContent}
 use Rattle.option_parts.specs.TypedOptions.{truth_of}
@@ -19,6 +19,7 @@ use Rattle.reflect_pool.specs.declared.kind.Kind.{Kind}
 use Rattle.reflect_pool.specs.declared.kind.Kind.TheVariants as kinds
 use Rattle.reflect_pool.specs.declared.message.MessageDescriptor.{MessageDescriptor}
 use Rattle.text_error.specs.declared.error.ParseErrorKind.{ParseErrorKind}
+use Rattle.text_error.specs.declared.error.ParseErrorKind.TheVariants.{Memory}
 use Rattle.text_lex.specs.Longest.{Lexes}
 use Rattle.text_lex.specs.Token.{Lexeme}
 use Rattle.text_model.specs.Scalars.{natural_in, signed_32, string_in}
@@ -86,7 +87,7 @@ abbrev pub SaysNoText : MessageDescriptor → OptionContent → ValueFault → T
 SaysNoText d o faults.Memory = Unit {0}
 SaysNoText d o faults.Unsuited = o.aggregate_value ≡ None
 SaysNoText d o (faults.Text e) = (z : Text) × (o.aggregate_value ≡ Some z)
-    × TextMakesNone d z e.kind
+    × (e.kind ≢ Memory) × TextMakesNone d z e.kind
 
 -- the value is what the option says
 abbrev pub IsSaid : Kind → OptionContent → Value → Type 0

@@ -1,6 +1,6 @@
 //! Files for a pool, from descriptor records and from the bytes of descriptor sets.
 
-ghost use Rattle.std.specs.Prelude.{◌≡◌, ◌⊎◌, ◌∷◌, [], Some, IfOk, OnOk, OnErr, IfErr};
+ghost use Rattle.std.specs.Prelude.{◌≡◌, ◌∷◌, [], Some, IfOk, OnOk, OnErr, IfErr};
 ghost use Rattle.reflect_codec.specs.Faults.{FileBytesFault, SetBytesFault};
 ghost use Rattle.reflect_tables.specs.Types.{PoolType};
 ghost use Rattle.reflect_pool.specs.Linked.{empty_pool};
@@ -53,9 +53,9 @@ impl From<WireError> for PoolError {
 }
 
 impl From<DescriptorError> for PoolError {
-    ghost use Rattle.reflect_bytes.specs.declared.pool_ext.PoolError.TheVariants.{Memory, Link};
+    ghost use Rattle.reflect_bytes.specs.Spelled.{of_linker};
 
-    ghost from_gives = { λ error e. (e ≡ Memory) ⊎ (e ≡ Link error) };
+    ghost from_gives = { λ error e. e ≡ of_linker error };
 
     fn from(error: DescriptorError) -> PoolError {
         if error.is_memory() {

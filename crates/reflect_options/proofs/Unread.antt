@@ -11,10 +11,15 @@ use Rattle.reflect_pool.specs.declared.message.MessageDescriptor.{MessageDescrip
 use Rattle.reflect_wire.specs.declared.wire_error.WireError.{WireError}
 use Rattle.reflect_wire.specs.declared.wire_error.WireError.TheVariants.{Truncated, BadVarint, BadKey, BadWireType, EndGroupMismatch, TooDeep, BadUtf8, TooLong, Memory}
 
--- each but want of memory, told apart without a look at what is known of it
+-- each but want of memory, and each but want of levels, told apart without a look at what is known
+-- of it
 abbrev NoMemory : WireError → Type 0
 NoMemory Memory = ⊥
 NoMemory _ = Unit {0}
+
+abbrev NoDepth : WireError → Type 0
+NoDepth TooDeep = ⊥
+NoDepth _ = Unit {0}
 
 -- of stored bytes
 pub stored_told : (scope : OptionScope) (d : MessageDescriptor) (o : Options) (e : WireError) → TellsWhy d o.encoded.items e → UnlessMemory (RefusesStored scope d o) (of_wire e)
@@ -32,10 +37,10 @@ stored_told scope d o TooLong told = ((λ is. subst NoMemory is tt), told)
 pub written_told : (m : DynamicMessage) (e : WireError) → TellsWhy m.descriptor (message_bytes m) e → UnlessMemory (RefusesWritten m) (unread e)
 written_told m Memory told = tt
 written_told m TooDeep told = told
-written_told m Truncated told = ((λ is. subst NoMemory is tt), told)
-written_told m BadVarint told = ((λ is. subst NoMemory is tt), told)
-written_told m BadKey told = ((λ is. subst NoMemory is tt), told)
-written_told m BadWireType told = ((λ is. subst NoMemory is tt), told)
-written_told m EndGroupMismatch told = ((λ is. subst NoMemory is tt), told)
-written_told m BadUtf8 told = ((λ is. subst NoMemory is tt), told)
-written_told m TooLong told = ((λ is. subst NoMemory is tt), told)
+written_told m Truncated told = ((λ is. subst NoMemory is tt), (λ is. subst NoDepth is tt), told)
+written_told m BadVarint told = ((λ is. subst NoMemory is tt), (λ is. subst NoDepth is tt), told)
+written_told m BadKey told = ((λ is. subst NoMemory is tt), (λ is. subst NoDepth is tt), told)
+written_told m BadWireType told = ((λ is. subst NoMemory is tt), (λ is. subst NoDepth is tt), told)
+written_told m EndGroupMismatch told = ((λ is. subst NoMemory is tt), (λ is. subst NoDepth is tt), told)
+written_told m BadUtf8 told = ((λ is. subst NoMemory is tt), (λ is. subst NoDepth is tt), told)
+written_told m TooLong told = ((λ is. subst NoMemory is tt), (λ is. subst NoDepth is tt), told)

@@ -149,7 +149,7 @@ unread e = of_wire e
 -- they are not
 abbrev pub RefusesWritten : DynamicMessage → OptionErrorKind → Type 0
 RefusesWritten m kinds.OptionTooDeep = TellsWhy m.descriptor (message_bytes m) TooDeep
-RefusesWritten m (kinds.UndecodableOptions (Some e)) = (e ≢ Memory)
+RefusesWritten m (kinds.UndecodableOptions (Some e)) = (e ≢ Memory) × (e ≢ TooDeep)
     × TellsWhy m.descriptor (message_bytes m) e
 RefusesWritten m e = ⊥
 

@@ -88,7 +88,7 @@ module _ (scope : OptionScope) (s : NameScope) (o : Options) (m : Message) (soun
 
       refuses_written : (e : OptionErrorKind) → RefusesWritten whole e → ⊥
       refuses_written kinds.OptionTooDeep h = refuses_none errors.TooDeep (λ same. absurd (cc same)) (moved errors.TooDeep h)
-      refuses_written (kinds.UndecodableOptions (Some w)) h = refuses_none w h.0 (moved w h.1)
+      refuses_written (kinds.UndecodableOptions (Some w)) h = refuses_none w h.0 (moved w h.2)
       refuses_written e h = absurd h
 
     refuses_typed : (at : Option ℕ) (e : OptionErrorKind) → RefusesTyped scope s d o at e → ⊥

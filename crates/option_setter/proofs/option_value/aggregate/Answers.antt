@@ -1,5 +1,6 @@
 use Rattle.std.proofs.Common.{◌≡◌, Some, ap, sym, ◌∙◌}
 use Rattle.descriptor_records.specs.Content.{text_view}
+use Rattle.text_error.specs.declared.error.ParseErrorKind.TheVariants.{Memory}
 use Rattle.text_scalars.specs.Remaining.{remaining}
 use Rattle.text_syntax.proofs.Exact.{exact_text}
 use Rattle.option_setter.proofs.SaidTexts.{there}
@@ -27,12 +28,14 @@ returns c =
     let is : text_view c.args.option.now.aggregate_value ≡ Some z = ap text_view c.in-Some.is ∙ ap Some (sym c.as_str.ensures.value) in
     let ls = remaining c.new.result.tokens in
     let kind = c.in-Err.error.kind in
-    let u = there kind (λ e. c.in_default-kind.not-Memory (c.kind.ensures ∙ e)) c.in-Err.ensures.cause in
+    let other : kind ≡ Memory → ⊥ = λ e. c.in_default-kind.not-Memory (c.kind.ensures ∙ e) in
+    let u = there kind other c.in-Err.ensures.cause in
     record {
       made = tt;
       nothing = (
         z,
         is,
+        other,
         (
           (λ fs is. (
             c.new-message.result,
@@ -45,7 +48,7 @@ returns c =
           c.new-message.ensures.empty,
           ls,
           c.new.ensures,
-          there kind (λ e. c.in_default-kind.not-Memory (c.kind.ensures ∙ e)) c.in-Err.ensures.told,
+          there kind other c.in-Err.ensures.told,
         ),
       );
     }
