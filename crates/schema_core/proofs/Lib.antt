@@ -1,3 +1,4 @@
 pub mod Answered
 pub mod Apart
 pub mod Refused
+pub mod RefusedInputs

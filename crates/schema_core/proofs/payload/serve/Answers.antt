@@ -4,7 +4,7 @@ use Rattle.std.proofs.lemmas.Result.{err_from_is_err_and}
 use Rattle.schema_core.specs.Refusals.{BytesRefused, TextRefused}
 use Rattle.schema_core.specs.Serving.{Answers, RefusesInput, of_schema, shown}
 use Rattle.schema_core.proofs.Answered.{answered}
-use Rattle.schema_core.proofs.Refused.{of_input, of_payload, refused_input}
+use Rattle.schema_core.proofs.RefusedInputs.{of_input, of_payload, refused_input}
 use Rattle.schema_core.proofs.payload.serve.Goals as goal
 
 pub returns-in_ok-bytes-in-Encode-clause-answered : goal.returns-in_ok-bytes-in-Encode-clause-answered

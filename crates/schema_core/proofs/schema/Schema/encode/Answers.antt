@@ -1,7 +1,7 @@
 use Rattle.std.proofs.Common.{refl, subst}
 use Rattle.std.proofs.lemmas.Result.{err_from_is_err_and}
 use Rattle.reflect_format.specs.Truth.{TrueOf}
-use Rattle.schema_core.proofs.Refused.{of_text_kind, unknown_text}
+use Rattle.schema_core.proofs.RefusedInputs.{of_text_kind, unknown_text}
 use Rattle.schema_core.proofs.schema.Schema.encode.Goals as goal
 
 pub returns-in_err-message-clause-err : goal.returns-in_err-message-clause-err

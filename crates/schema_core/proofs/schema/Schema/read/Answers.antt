@@ -1,5 +1,5 @@
 use Rattle.std.proofs.lemmas.Result.{err_from_is_err_and}
-use Rattle.schema_core.proofs.Refused.{of_message, unknown_bytes}
+use Rattle.schema_core.proofs.RefusedInputs.{of_message, unknown_bytes}
 use Rattle.schema_core.proofs.schema.Schema.read.Goals as goal
 
 pub returns-clause-ok : goal.returns-clause-ok
