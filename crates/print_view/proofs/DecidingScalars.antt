@@ -1,7 +1,7 @@
 -- Whether a value, a payload and a record are what a kind, and what numbers ask for.
 use Rattle.std.proofs.Common.{◌≡◌, inl, inr, ℕ, ℤ, ◌-◌, ◌^◌, List, [], ◌∷◌, length, refl, sym, ◌∙◌, subst, FitsSigned, IsUtf8}
 use Rattle.std.proofs.lemmas.Str.{IsUtf8-from_is_utf8, is_utf8-from_IsUtf8}
-use Rattle.core.specs.Str.{is_utf8}
+use Rattle.std.specs.Str.{is_utf8}
 use Rattle.std.specs.Int.{Width, w32, w64}
 use lib.Signed.{mag}
 use mir.Val.{hbits}
