@@ -30,13 +30,17 @@ impl<'p> DynamicMessage<'p> {
         content::is_set(self.extension_value(extension.number()), extension)
     }
 
-    /// What the extension, one of the message's type, holds, or its default.
+    /// What the extension, one of the message's type, holds, or its default, which may take memory;
+    /// what is held takes none.
     pub fn get_extension(
         &self,
         extension: &ExtensionDescriptor<'p>,
     ) -> Result<FieldRef<'_, 'p>, AllocError>
-        ensures { IfOk result (Shows (extension_pool extension.now) (extension_type extension.now)
+        ensures shows { IfOk result (Shows (extension_pool extension.now)
+            (extension_type extension.now)
             (value_at (extensions_of self.now) (extension_type extension.now).number)) }
+        ensures unset { OnErr result
+            (value_at (extensions_of self.now) (extension_type extension.now).number ≡ None) }
     {
         content::lend(
             self.allocator(),
@@ -80,6 +84,7 @@ impl<'p> DynamicMessage<'p> {
             (extension_type extension.now).number (Some value.entry)) }
         ensures err { OnErr result (extensions_of self.new ≡ extensions_of self.old) }
         ensures fields { fields_of self.new ≡ fields_of self.old }
+        ensures choices { choices_of self.new ≡ choices_of self.old }
         ensures unknown { unknown_of self.new ≡ unknown_of self.old }
     {
         let mut parts = self.take_block()?;

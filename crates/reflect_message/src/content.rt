@@ -1,6 +1,6 @@
 //! What fields and extensions hold, of what stands under their numbers.
 
-ghost use Rattle.std.specs.Prelude.{◌≡◌, true, None, Some, IsTrue, IsSome, IfSome, IfOk};
+ghost use Rattle.std.specs.Prelude.{◌≡◌, true, None, Some, IsTrue, IsSome, IfSome, IfOk, OnErr};
 ghost use Rattle.std.specs.Option.{option_copied};
 ghost use Rattle.reflect_entries.specs.Entries.{Updates, value_at};
 ghost use Rattle.reflect_message.specs.Present.{held_if_set, is_held};
@@ -32,7 +32,9 @@ pub fn lend<'m, 'p, F: FieldDescriptorLike<'p>>(
     held: Option<&'m Value<'p>>,
     field: &F,
 ) -> Result<FieldRef<'m, 'p>, AllocError>
-    ensures { IfOk result (Shows (F.pool field.now) (F.says field.now) (option_copied held.entry)) }
+    ensures shows { IfOk result (Shows (F.pool field.now) (F.says field.now)
+        (option_copied held.entry)) }
+    ensures unset { OnErr result (option_copied held.entry ≡ None) }
 {
     match held {
         Some(value) => Ok(FieldRef::Borrowed(value)),
