@@ -4,7 +4,8 @@ ghost use Rattle.std.specs.Prelude.{◌≡◌, IfErr, IfNone, IfOk, IfSome, OnEr
 ghost use Rattle.reflect_entries.specs.Entries.{IsAscending};
 ghost use Rattle.reflect_message.specs.Held.{fields_of};
 ghost use Rattle.reflect_message.specs.Oneofs.{IsExclusive};
-ghost use Rattle.reflect_numbered.specs.Called.{HasName, IsMeant, Lends, NoneMeant, OwnsMeant, SetsMeant, StaysWhole, TakesMeant, TellsMeant, UnsetsMeant};
+ghost use Rattle.reflect_numbered.specs.Called.{HasName, HasNothing, IsMeant, Lends, NoneMeant, OwnsMeant, SetsMeant};
+ghost use Rattle.reflect_numbered.specs.Called.{SomeMeant, StaysWhole, TakesMeant, TellsMeant, UnsetsMeant};
 ghost use Rattle.reflect_numbered.specs.Refused.{RefusesSet};
 
 use reflect_message::{DynamicMessage, FieldRef, Value};
@@ -44,14 +45,17 @@ pub trait FieldsByName<'p> {
     fn has_field_by_name(&self, name: &str) -> bool
         ensures { TellsMeant (HasName name.now) (message self.now) result };
 
-    /// What the field of the name holds, or its default; `None` where there is no such field.
+    /// What the field of the name holds, or its default, which may take memory; `None` where there
+    /// is no such field.
     fn get_field_by_name(&self, name: &str) -> Result<Option<FieldRef<'_, 'p>>, AllocError>
-        ensures { IfOk result (Lends (HasName name.now) (message self.now)) };
+        ensures lends { IfOk result (Lends (HasName name.now) (message self.now)) }
+        ensures unset { OnErr result (HasNothing (HasName name.now) (message self.now)) };
 
     /// Sets the field of the name to a value that suits it; without such a field nothing happens. A
     /// refusal leaves the message.
     fn set_field_by_name(&mut self, name: &str, value: Value<'p>) -> Result<(), AllocError>
         ensures type_stays { (message self.new).descriptor ≡ (message self.old).descriptor }
+        ensures meant { OnErr result (SomeMeant (HasName name.now) (message self.old).descriptor) }
         ensures ok { OnOk result (SetsMeant (HasName name.now) (message self.old) (message self.new)
             value.entry) }
         ensures ascending { OnOk result (IsAscending (fields_of (message self.old))

@@ -9,7 +9,7 @@ use Rattle.reflect_tables.specs.Types.{PoolType}
 use Rattle.reflect_passes.specs.Errors.{is_memory}
 use Rattle.reflect_passes.specs.declared.error.DescriptorError.{DescriptorError}
 use Rattle.reflect_build.specs.Accepted.{AddsFiles, FaultlessFiles}
-use Rattle.reflect_build.specs.Refusals.{AreRefused}
+use Rattle.reflect_build.specs.Refusals.{AreRefused, AreTooMany}
 use Rattle.reflect_bytes.specs.declared.pool_ext.PoolError.{PoolError}
 use Rattle.reflect_bytes.specs.declared.pool_ext.PoolError.TheVariants.{Wire, Link, Memory}
 
@@ -30,9 +30,10 @@ of_wire e = Wire e
 abbrev pub of_linker : DescriptorError → PoolError
 of_linker e = cond (is_memory e.first) Memory (Link e)
 
--- records fit together and with a pool, which becomes the new one
+-- records fit together and with a pool, which becomes the new one, and are not too many
 abbrev pub RecordsLinked : PoolType → List FileDescriptorProto → PoolType → Type 0
 RecordsLinked p files new = AddsFiles p files new × FaultlessFiles p files new
+    × (AreTooMany p files → ⊥)
 
 -- records are refused where they do not fit together, with the faults of the first faulty pass, or
 -- where there are more of them than indexes tell, unless memory ran out

@@ -1,5 +1,5 @@
 -- The field that is found by a number is the one that is meant; what is so of any field that is.
-use Rattle.std.proofs.Common.{◌≡◌, ◌≢◌, ℕ, Result, Ok, Err, OnOk, IfErr, Some, sym, ap, subst}
+use Rattle.std.proofs.Common.{◌≡◌, ◌≢◌, ℕ, Result, Ok, Err, OnOk, OnErr, IfErr, Some, sym, ap, subst}
 use Rattle.reflect_tables.specs.Types.{no_field}
 use Rattle.reflect_pool.specs.FieldsLeft.{field_type}
 use Rattle.reflect_pool.specs.Finds.{FindsField}
@@ -19,13 +19,18 @@ pub if_ok : {T E P Q : Type 0} (r : Result T E) → (P → Q) → OnOk r P → O
 if_ok (Ok x) f h = f h
 if_ok (Err e) f h = tt
 
+-- a fact is so where an answer is refused
+pub if_err : {T E P : Type 0} (r : Result T E) → P → OnErr r P
+if_err (Ok x) h = tt
+if_err (Err e) h = h
+
 -- field and value that are handed back are those that were meant
 pub hands_back : (P : Asked) (m : MessageDescriptor) (f : FieldDescriptor) (v : Value) → IsMeant P m f
     → (r : Result (Unit {0}) SetFieldError) → IfErr r (HandsBack f v) → IfErr r (RefusesSet P m v)
 hands_back P m f v meant (Ok x) h = tt
 hands_back P m f v meant (Err errors.NotFound) h = absurd h
 hands_back P m f v meant (Err (errors.InvalidType g w)) h = (subst (IsMeant P m) (sym h.0) meant, h.1, subst (λ x. IsValidFor (field_pool x) (field_type x) v → ⊥) (sym h.0) h.2)
-hands_back P m f v meant (Err errors.Memory) h = tt
+hands_back P m f v meant (Err errors.Memory) h = (f, meant, h)
 
 -- a field of the type is declared in it
 pub declares : (m : MessageDescriptor) (f : FieldDescriptor) → f.message ≡ m → Declares m f

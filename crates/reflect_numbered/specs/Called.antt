@@ -37,6 +37,10 @@ pub record IsMeant (P : Asked) (m : MessageDescriptor) (f : FieldDescriptor) : T
 abbrev pub OwnsMeant : Asked → MessageDescriptor → Type 0
 OwnsMeant P m = (f : FieldDescriptor) → IsMeant P m f → Owns m f
 
+-- a field is meant
+abbrev pub SomeMeant : Asked → MessageDescriptor → Type 0
+SomeMeant P m = (f : FieldDescriptor) × IsMeant P m f
+
 -- no field is meant
 abbrev pub NoneMeant : Asked → MessageDescriptor → Type 0
 NoneMeant P m = (f : FieldDescriptor) → IsMeant P m f → ⊥
@@ -63,6 +67,10 @@ abbrev pub Lends : Asked → DynamicMessage → Option FieldRef → Type 0
 Lends P m r =
     IfMeant P m.descriptor (λ f. HasOne (Shows (field_pool f) (field_type f) (under m f)) r)
     (r ≡ None)
+
+-- a field is meant, under which the message has nothing
+abbrev pub HasNothing : Asked → DynamicMessage → Type 0
+HasNothing P m = (f : FieldDescriptor) × IsMeant P m.descriptor f × (under m f ≡ None)
 
 -- the field is set as by its descriptor, or nothing is changed where there is no field
 abbrev pub SetsMeant : Asked → DynamicMessage → DynamicMessage → Value → Type 0

@@ -4,7 +4,8 @@ ghost use Rattle.std.specs.Prelude.{◌≡◌, IfErr, IfOk, IsSome, IsTrue, OnEr
 ghost use Rattle.reflect_entries.specs.Entries.{IsAscending, value_at};
 ghost use Rattle.reflect_message.specs.Held.{fields_of};
 ghost use Rattle.reflect_message.specs.Oneofs.{IsExclusive};
-ghost use Rattle.reflect_numbered.specs.Called.{HasNumber, Lends, SetsMeant, StaysWhole, TakesMeant, TellsMeant, UnsetsMeant};
+ghost use Rattle.reflect_numbered.specs.Called.{HasNothing, HasNumber, Lends, SetsMeant, SomeMeant, StaysWhole};
+ghost use Rattle.reflect_numbered.specs.Called.{TakesMeant, TellsMeant, UnsetsMeant};
 ghost use Rattle.reflect_numbered.specs.Refused.{RefusesSet};
 
 use crate::set_field_error::{SetFieldError, TrySetField};
@@ -23,14 +24,17 @@ pub trait FieldsByNumber<'p> {
         ensures held { IsTrue result → IsSome (value_at (fields_of (message self.now)) number) }
         ensures tells { TellsMeant (HasNumber number) (message self.now) result };
 
-    /// What the field of the number holds, or its default; `None` where there is no such field.
+    /// What the field of the number holds, or its default, which may take memory; `None` where there
+    /// is no such field.
     fn get_field_by_number(&self, number: u32) -> Result<Option<FieldRef<'_, 'p>>, AllocError>
-        ensures { IfOk result (Lends (HasNumber number) (message self.now)) };
+        ensures lends { IfOk result (Lends (HasNumber number) (message self.now)) }
+        ensures unset { OnErr result (HasNothing (HasNumber number) (message self.now)) };
 
     /// Sets the field of the number to a value that suits it; without such a field nothing happens.
     /// A refusal leaves the message.
     fn set_field_by_number(&mut self, number: u32, value: Value<'p>) -> Result<(), AllocError>
         ensures type_stays { (message self.new).descriptor ≡ (message self.old).descriptor }
+        ensures meant { OnErr result (SomeMeant (HasNumber number) (message self.old).descriptor) }
         ensures ok { OnOk result (SetsMeant (HasNumber number) (message self.old) (message self.new)
             value.entry) }
         ensures ascending { OnOk result (IsAscending (fields_of (message self.old))

@@ -45,6 +45,7 @@ impl<'a, W: fmt::Write> Writer<'a, W> {
             (IsMessageText self.old.lines.options message.now) self.new.lines.output.now }
         ensures same { OnOk result
             (self.new.lines.output.ghost_name ≡ self.old.lines.output.ghost_name) }
+        ensures form { self.new.lines.options ≡ self.old.lines.options }
     {
         items(&mut self.lines, message, false, Place::TOP)?;
         Ok(())
@@ -61,6 +62,7 @@ impl<'a, W: fmt::Write> Writer<'a, W> {
             self.new.lines.output.now }
         ensures same { OnOk result
             (self.new.lines.output.ghost_name ≡ self.old.lines.output.ghost_name) }
+        ensures form { self.new.lines.options ≡ self.old.lines.options }
     {
         value_text(&mut self.lines, value, kind, Place::TOP)
     }
@@ -74,6 +76,7 @@ impl<'a, W: fmt::Write> Writer<'a, W> {
             self.new.lines.output.now }
         ensures same { OnOk result
             (self.new.lines.output.ghost_name ≡ self.old.lines.output.ghost_name) }
+        ensures form { self.new.lines.options ≡ self.old.lines.options }
     {
         self.lines.unknown_field(field, Place::TOP)
     }

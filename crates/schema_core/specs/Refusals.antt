@@ -14,7 +14,7 @@ use Rattle.descriptor_records.specs.declared.file.FileDescriptorProto.{FileDescr
 use Rattle.reflect_growth.specs.Settled.{bare_of}
 use Rattle.reflect_pool.specs.Dots.{without_dot}
 use Rattle.reflect_pool.specs.Linked.{empty_pool}
-use Rattle.reflect_build.specs.Refusals.{AreRefused, AreTooMany}
+use Rattle.reflect_build.specs.Refusals.{AreRefused}
 use Rattle.reflect_passes.specs.Errors.{is_memory}
 use Rattle.reflect_passes.specs.declared.error.DescriptorError.{DescriptorError}
 use Rattle.reflect_wire.specs.declared.wire_error.WireError.{WireError}
@@ -109,10 +109,10 @@ TextRefused p name text Memory = Unit {0}
 TextRefused p name text _ = ⊥
 
 -- files fit together and with a pool, which becomes the new one, with the options that linking
--- reads where it reads them, and are not too many
+-- reads where it reads them
 abbrev pub FilesFit : PoolType → List FileDescriptorProto → PoolType → Type 0
 FilesFit p files new = (typed : List FileDescriptorProto) × TypedFiles files typed
-    × RecordsLinked p typed new × (AreTooMany p typed → ⊥)
+    × RecordsLinked p typed new
 
 -- files are added to a pool and their options are settled, which changes records alone, and in
 -- these nothing but options and the paths of their locations

@@ -59,7 +59,7 @@ empty_grown = record {
 -- files more, of whose options linking reads what their bytes say
 files_more : (old new : Schema) (files : List FileDescriptorProto) → HasGrown old.pool → IsPool new.pool → ArePlainFiles ReadsItsBytes (map file_view files) → HasPlainRecords new.pool
     → FilesLinked old.pool files new.pool → HasGrown new.pool
-files_more old new files was pool read plain (linked, (typed, types, (adds, faultless), few), settles, settled, bare) =
+files_more old new files was pool read plain (linked, (typed, types, (adds, faultless, few)), settles, settled, bare) =
     let changes : ChangesOptions linked new.pool = record { settled = settled; bare = bare } in
     let names : HaveOwnNames new.pool = names_stay linked new.pool settled (accepted_apart old.pool linked typed old.sound faultless was.names) in
     let m = reads_more was.batches old.pool linked new.pool typed was.typed pool new.sound names faultless settles changes (files_copied files typed read types) was.alike in

@@ -53,7 +53,7 @@ adds_batch : (old new : Schema) (batch : List FileContent) → IsSourcePool old.
 adds_batch old new batch named add pool = by add.linked
   where
     by : SourcesLinked old.pool add.given new.pool → AddsBatch old.pool new.pool batch
-    by (files, read, (linked, (typed, copied, (adds, faultless), few), settles, settled, bare)) = record {
+    by (files, read, (linked, (typed, copied, (adds, faultless, few)), settles, settled, bare)) = record {
       linked = linked;
       typed = typed;
       faultless = faultless;
@@ -78,7 +78,7 @@ came_about (last ∷ earlier) s (old, before, add, pool) =
 -- ---- sources that a schema takes are a batch
 
 pub new_batch : (old new : PoolType) (given : Sources) → SourcesLinked old given new → (batch : List FileContent) × AreNewFilesOf old given batch
-new_batch old new given (files, read, (linked, (typed, copied, (adds, faultless), few), settles, settled, bare)) =
+new_batch old new given (files, read, (linked, (typed, copied, (adds, faultless, few)), settles, settled, bare)) =
     (map file_view (new_files faultless.0.indexes typed), (files, typed, faultless.0, read, copied, faultless.1, refl))
 
 -- and types for all options stay

@@ -11,7 +11,7 @@ use Rattle.schema_laws.specs.Histories.{IsMadeBy, Sources, of_sources}
 
 -- so it stays where sources are added
 held_more : (old new : Schema) (given : Sources) → HasGrown old.pool → HasGrown new.pool → HoldsOptions old.pool → SourcesLinked old.pool given new.pool → HoldsOptions new.pool
-held_more old new given was g held (files, read, (linked, (typed, types, (adds, faultless), few), settles, settled, bare)) =
+held_more old new given was g held (files, read, (linked, (typed, types, (adds, faultless, few)), settles, settled, bare)) =
     let m = holds_more was.batches old.pool linked new.pool typed was.typed was.is.kept g.is new.sound g.names faultless settles
     (record { settled = settled; bare = bare }) (typed_given files typed (options_of given files read) types) held was.alike g.plain in
     m.held

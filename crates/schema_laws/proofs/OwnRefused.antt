@@ -120,6 +120,6 @@ module _ (s : Schema) (is : IsGrown s) (held : HoldsOptions s.pool) (short : len
   own_refused bytes TooLong other refused = absurd (own_bytes wire.TooLong refused)
   own_refused bytes Memory other refused = absurd (other refl)
   own_refused bytes (Link e) other refused = own_link e refused
-  own_refused bytes (Options e) other (files, spells, (linked, (typed, copied, (adds, faultless), few), pool, sound, refuses)) =
+  own_refused bytes (Options e) other (files, spells, (linked, (typed, copied, (adds, faultless, few)), pool, sound, refuses)) =
       absurd (own_options linked files typed spells copied faultless pool sound (files_stored SaysAndIsSettled s.pool.records own.plain bytes) (option_place e) e.kind refuses)
   own_refused bytes _ other refused = absurd refused

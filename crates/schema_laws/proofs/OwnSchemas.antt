@@ -30,7 +30,7 @@ module _ (s t : Schema) (is : IsGrown s) (detour : IsDetour s t) where
   same_types = by detour.linked
     where
       by : SetLinked empty_pool (pool_bytes s.pool) t.pool → types_of t.pool ≡ types_of s.pool
-      by (files, spells, (linked, (typed, types, (adds, faultless), few), settles, settled, bare)) =
+      by (files, spells, (linked, (typed, types, (adds, faultless, few)), settles, settled, bare)) =
           types_again g.batches s.pool linked t.pool files typed g.typed g.is.kept g.plain g.alike (own_same s g.plain detour.short files spells) types faultless
           (record { settled = settled; bare = bare }) detour.pool
 
@@ -38,7 +38,7 @@ module _ (s t : Schema) (is : IsGrown s) (detour : IsDetour s t) where
   same_names decoded = by detour.linked
     where
       by : SetLinked empty_pool (pool_bytes s.pool) t.pool → schema_of t.pool decoded ≡ schema_of s.pool decoded
-      by (files, spells, (linked, (typed, types, (adds, faultless), few), settles, settled, bare)) =
+      by (files, spells, (linked, (typed, types, (adds, faultless, few)), settles, settled, bare)) =
           names_again g.batches s.pool linked t.pool files typed g.typed g.is.kept g.plain g.alike (own_same s g.plain detour.short files spells) types faultless
           (record { settled = settled; bare = bare }) detour.pool decoded
 
@@ -50,6 +50,6 @@ module _ (s t : Schema) (is : IsGrown s) (detour : IsDetour s t) where
       stored = files_stored SaysAndIsSettled s.pool.records g.plain bytes
 
       by : SetLinked empty_pool (pool_bytes s.pool) t.pool → map file_view t.pool.records ≡ map file_view s.pool.records
-      by (files, spells, (linked, (typed, types, (adds, faultless), few), settles, settled, bare)) =
+      by (files, spells, (linked, (typed, types, (adds, faultless, few)), settles, settled, bare)) =
           records_again g.batches s.pool linked t.pool files typed g.typed g.is.kept g.plain g.alike (own_same s g.plain detour.short files spells) types faultless
           (record { settled = settled; bare = bare }) detour.pool held stored settles t.sound

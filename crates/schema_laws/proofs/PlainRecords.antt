@@ -49,7 +49,7 @@ older old linked files (w, is, (names, batch)) =
 -- files with plain records leave the records of a pool plain
 linked_files : (old new : PoolType) (files : List FileDescriptorProto) → IsSound new → HasPlainRecords old → ArePlainFiles SaysOrWaits (map file_view files)
     → FilesLinked old files new → HasPlainRecords new
-linked_files old new files sound plain are (linked, (typed, types, (adds, faultless), few), settles, settled, bare) =
+linked_files old new files sound plain are (linked, (typed, types, (adds, faultless, few)), settles, settled, bare) =
     let waits = files_weaker SaysAndIsSettled SaysOrWaits (λ kind o says. inl says.0) (map file_view old.records) plain in
     let linked_are = linked_plain SaysOrWaits old linked typed waits (typed_plain files typed are types) faultless in
     let many = linked_many old linked typed faultless in

@@ -15,4 +15,4 @@ returns-in_err-build_files-clause-err c =
 pub returns-clause-linked : goal.returns-clause-linked
 returns-clause-linked c =
     let pushed : c.push.new.self.items ≡ c.args.file ∷ [] = search rules in
-    subst (λ files. RecordsLinked c.args.self.now files c.build_files.new.self) pushed (c.in_ok-build_files.ensures.added, c.in_ok-build_files.ensures.accepted)
+    subst (λ files. RecordsLinked c.args.self.now files c.build_files.new.self) pushed (c.in_ok-build_files.ensures.added, c.in_ok-build_files.ensures.accepted, c.in_ok-build_files.ensures.too_many)

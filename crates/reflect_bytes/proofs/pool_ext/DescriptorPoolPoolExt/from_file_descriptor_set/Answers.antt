@@ -12,4 +12,4 @@ returns-in_err-build_files-clause-err c =
     rw p.1 (of_link empty_pool c.args.set.file.items c.in_err-build_files.field-0.0 _ (subst (λ pool. AreRefused pool c.args.set.file.items c.in_err-build_files.field-0.0) c.new-pool.ensures c.in_err-build_files.ensures.refused) p.2)
 
 pub returns-clause-linked : goal.returns-clause-linked
-returns-clause-linked c = subst (λ pool. RecordsLinked pool c.args.set.file.items c.build_files.new.self) c.new-pool.ensures (c.in_ok-build_files.ensures.added, c.in_ok-build_files.ensures.accepted)
+returns-clause-linked c = subst (λ pool. RecordsLinked pool c.args.set.file.items c.build_files.new.self) c.new-pool.ensures (c.in_ok-build_files.ensures.added, c.in_ok-build_files.ensures.accepted, c.in_ok-build_files.ensures.too_many)

@@ -23,7 +23,7 @@ returns-in_err-settled-clause-err c =
     let p = err_from_is_err_and r.result r.ensures.1 in
     let old = c.args.self.now.pool in
     let linked = c.build_files.new.self in
-    let fit : FilesFit old c.args.files.items linked = (c.copy_typed_options.new.files.items, c.copy_typed_options.ensures, (c.in_ok-build_files.ensures.added, c.in_ok-build_files.ensures.accepted), c.in_ok-build_files.ensures.too_many) in
+    let fit : FilesFit old c.args.files.items linked = (c.copy_typed_options.new.files.items, c.copy_typed_options.ensures, (c.in_ok-build_files.ensures.added, c.in_ok-build_files.ensures.accepted, c.in_ok-build_files.ensures.too_many)) in
     let e = c.in_err-settled.field-0.0 in
     let from_mark = subst (λ s. IfErr s (λ f. UnlessMemory (RefusesFrom linked c.mark-mark.result (option_place f)) f.kind)) c.in_err-settled.was c.resolve_options-settled.ensures.refused in
     let refused = subst (λ n. UnlessMemory (RefusesFrom linked n (option_place e)) e.kind) c.mark-mark.ensures from_mark in
@@ -35,7 +35,7 @@ pub returns-clause-linked : goal.returns-clause-linked
 returns-clause-linked c =
     let linked = c.build_files.new.self in
     let new = c.if-is_err.self.pool in
-    let fit : FilesFit c.args.self.now.pool c.args.files.items linked = (c.copy_typed_options.new.files.items, c.copy_typed_options.ensures, (c.in_ok-build_files.ensures.added, c.in_ok-build_files.ensures.accepted), c.in_ok-build_files.ensures.too_many) in
+    let fit : FilesFit c.args.self.now.pool c.args.files.items linked = (c.copy_typed_options.new.files.items, c.copy_typed_options.ensures, (c.in_ok-build_files.ensures.added, c.in_ok-build_files.ensures.accepted, c.in_ok-build_files.ensures.too_many)) in
     let options : SettlesPool linked c.mark-mark.result new = elim c.if-is_err.branch [ then-is_err w ↦ search (rules, of_calls) | else-is_err w ↦ search (rules, of_calls) ] in
     let settled : IsSettled linked new = elim c.if-is_err.branch [ then-is_err w ↦ search (rules, of_calls) | else-is_err w ↦ search (rules, of_calls) ] in
     let bare : map bare_of new.records ≡ map bare_of linked.records = elim c.if-is_err.branch [ then-is_err w ↦ search (rules, of_calls) | else-is_err w ↦ search (rules, of_calls) ] in
