@@ -1,4 +1,5 @@
-ghost use Rattle.std.specs.Prelude.{◌≡◌, ◌+◌, ◌<◌, IfOk};
+ghost use Rattle.std.specs.Prelude.{◌≡◌, ◌+◌, ◌<◌, IfErr, IfOk};
+ghost use Rattle.text_lines.specs.declared.error.WriteError.TheVariants.{Memory};
 
 use crate::error::WriteError;
 
@@ -33,6 +34,7 @@ impl Place {
     pub fn deeper(self) -> Result<Place, WriteError>
         ensures levels { IfOk result (λ p. p.levels < self.levels) }
         ensures place { IfOk result (λ p. p ≡ record self { levels = p.levels }) }
+        ensures err { IfErr result (λ e. (e ≡ Memory) × (self.levels ≡ 0)) }
     {
         match self.levels.checked_sub(1) {
             Some(levels) => Ok(Place { levels, ..self }),
@@ -46,6 +48,7 @@ impl Place {
         ensures levels { IfOk result (λ p. p.levels < self.levels) }
         ensures place { IfOk result
             (λ p. p ≡ record self { indent = self.indent + 2; levels = p.levels }) }
+        ensures err { IfErr result (λ e. e ≡ Memory) }
     {
         let inner = self.deeper()?;
         match inner.indent.checked_add(2) {
