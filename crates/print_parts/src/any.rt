@@ -10,8 +10,7 @@ use reflect_decode::DecodeMessage;
 use reflect_message::{DynamicMessage, FieldRef, Value};
 use reflect_pool::MessageDescriptor;
 use reflect_wire::WireError;
-use std::alloc::Global;
-use text_lines::WriteError;
+use std::alloc::{AllocError, Global};
 
 /// What a `google.protobuf.Any` holds.
 #[derive(Drop)]
@@ -65,20 +64,21 @@ fn named_type<'p>(
 }
 
 /// Bytes may be at fault; want of memory is handed on.
-fn pass_fault(fault: WireError) -> Result<(), WriteError>
+fn pass_fault(fault: WireError) -> Result<(), AllocError>
     ensures { OnOk result (IsFault fault) }
 {
     match fault {
-        WireError::Memory => Err(WriteError::Memory),
+        WireError::Memory => Err(AllocError),
         _ => Ok(()),
     }
 }
 
 /// The message that a `google.protobuf.Any` holds, where its type is known and its bytes spell one.
+/// Refused for want of memory alone.
 pub fn held_message<'m, 'p>(
     alloc: Global,
     message: &'m DynamicMessage<'p>,
-) -> Result<Option<Held<'m, 'p>>, WriteError>
+) -> Result<Option<Held<'m, 'p>>, AllocError>
     ensures { IfOk result (HoldsIn message.now) }
 {
     let Some(fields) = any_fields(message.descriptor()) else {

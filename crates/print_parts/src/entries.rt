@@ -21,8 +21,8 @@ use reflect_contents::MessageWalks;
 use reflect_message::{DynamicMessage, FieldRef, Value, declared_extension, declared_field};
 use reflect_pool::{ExtensionDescriptor, FieldDescriptor};
 use reflect_wire::UnknownField;
-use std::alloc::Global;
-use text_lines::{FormatOptions, WriteError};
+use std::alloc::{AllocError, Global};
+use text_lines::FormatOptions;
 
 /// A declared field that is printed, with its value.
 #[derive(Drop)]
@@ -32,12 +32,12 @@ pub struct Declared<'m, 'p> {
 }
 
 /// The declared fields that are printed with these options, by ascending number or as they are
-/// declared.
+/// declared. Refused for want of memory alone.
 pub fn declared_fields<'m, 'p>(
     alloc: Global,
     message: &'m DynamicMessage<'p>,
     options: FormatOptions,
-) -> Result<Vec<Declared<'m, 'p>>, WriteError>
+) -> Result<Vec<Declared<'m, 'p>>, AllocError>
     ensures { IfOk result
         (λ fields. AreChosen options message.now (map declared_entry fields.items)) }
 {
@@ -54,7 +54,7 @@ fn printed_fields<'m, 'p>(
     alloc: Global,
     message: &'m DynamicMessage<'p>,
     options: FormatOptions,
-) -> Result<Vec<Declared<'m, 'p>>, WriteError>
+) -> Result<Vec<Declared<'m, 'p>>, AllocError>
     ensures { IfOk result
         (λ fields. ArePrinted options message.now (map declared_entry fields.items)) }
 {
@@ -73,7 +73,7 @@ fn push_field<'m, 'p>(
     message: &'m DynamicMessage<'p>,
     field: FieldDescriptor<'p>,
     options: FormatOptions,
-) -> Result<(), WriteError>
+) -> Result<(), AllocError>
     requires { field.message ≡ message.now.descriptor }
     ensures { OnOk result (PutsField options message.now (field_type field.entry)
         (map declared_entry fields.old.items) (map declared_entry fields.new.items)) }
@@ -116,11 +116,12 @@ impl Other<'_, '_> {
 }
 
 /// The extensions that are set and, with these options, the unknown records, by ascending number.
+/// Refused for want of memory alone.
 pub fn other_entries<'m, 'p>(
     alloc: Global,
     message: &'m DynamicMessage<'p>,
     options: FormatOptions,
-) -> Result<Vec<Other<'m, 'p>>, WriteError>
+) -> Result<Vec<Other<'m, 'p>>, AllocError>
     ensures { IfOk result (λ others. AreOthers options message.now (map other_entry others.items)) }
 {
     let mut others = Vec::new(alloc);
@@ -136,7 +137,7 @@ pub fn other_entries<'m, 'p>(
 fn push_extensions<'m, 'p>(
     others: &mut Vec<Other<'m, 'p>>,
     message: &'m DynamicMessage<'p>,
-) -> Result<(), WriteError>
+) -> Result<(), AllocError>
     ensures { OnOk result (map other_entry others.new.items
         ≡ map other_entry others.old.items ++ extension_entries message.now) }
 {
@@ -152,7 +153,7 @@ fn push_extension<'m, 'p>(
     message: &'m DynamicMessage<'p>,
     number: u32,
     value: &'m Value<'p>,
-) -> Result<(), WriteError>
+) -> Result<(), AllocError>
     ensures { OnOk result (map other_entry others.new.items
         ≡ map other_entry others.old.items
         ++ option_list (known_entry message.now number value.now)) }
@@ -166,7 +167,7 @@ fn push_extension<'m, 'p>(
 fn push_unknown<'m, 'p>(
     others: &mut Vec<Other<'m, 'p>>,
     message: &'m DynamicMessage<'p>,
-) -> Result<(), WriteError>
+) -> Result<(), AllocError>
     ensures { OnOk result (map other_entry others.new.items
         ≡ map other_entry others.old.items ++ map undeclared (unknown_of message.now)) }
 {

@@ -131,7 +131,7 @@ fn expanded<'m, 'p, W: fmt::Write>(
     ensures { IfOk result (IsExpansion lines.now.options at.expansions message.now) }
 {
     if lines.options.expand_any && at.expansions > 0 {
-        held_message(lines.alloc, message)
+        Ok(held_message(lines.alloc, message)?)
     } else {
         Ok(None)
     }

@@ -10,7 +10,7 @@ use Rattle.option_setter.proofs.part_target.values_held.Goals.{in-Field+in_ok-he
 pub returns-in-Some : goal.returns-in-Some
 returns-in-Some c = λ l.
     let items : list_items (shown c.match-target.held) ≡ items_held (held_by c.args.message.now c.args.target) = elim c.match-target.branch [
-      | in-Field+in_ok-held-in-Field w ↦ lent_items c.args.message.now c.args.target _ w.in-Field.is c.match-target.held _ w.held-is w.in_ok-held-in-Field.ensures l
-      | in-Extension+in_ok-held-in-Extension w ↦ lent_items c.args.message.now c.args.target _ w.in-Extension.is c.match-target.held _ w.held-is w.in_ok-held-in-Extension.ensures l
+      | in-Field+in_ok-held-in-Field w ↦ lent_items c.args.message.now c.args.target _ w.in-Field.is c.match-target.held _ w.held-is w.in_ok-held-in-Field.ensures.shows l
+      | in-Extension+in_ok-held-in-Extension w ↦ lent_items c.args.message.now c.args.target _ w.in-Extension.is c.match-target.held _ w.held-is w.in_ok-held-in-Extension.ensures.shows l
     ] in
     counted c.in-Some.values.now (held_by c.args.message.now c.args.target) (c.in-Some.ensures ∙ ap list_items c.value.ensures ∙ items)
