@@ -29,9 +29,9 @@ Refutes {A} r P kind = IsCause ((x : A) (rest : List Lexeme) → r ≡ Some (x, 
 abbrev pub There : {A : Type 0} → Read A → (A → Type 0) → Type 0
 There {A} r P = (x : A) × (rest : List Lexeme) × (r ≡ Some (x, rest)) × P x
 
--- what is held stays, unless memory ran out, and then P holds
+-- the message stays as it is, unless memory ran out; then what it holds stays, or P holds
 abbrev pub StaysUnless : Type 0 → ParseErrorKind → DynamicMessage → DynamicMessage → Type 0
-StaysUnless P kind old new = Stays old new ⊎ ((kind ≡ kinds.Memory) × P)
+StaysUnless P kind old new = (new ≡ old) ⊎ ((kind ≡ kinds.Memory) × (Stays old new ⊎ P))
 
 -- the field that is there is refused, and the message does not have it but in part, for want of
 -- memory

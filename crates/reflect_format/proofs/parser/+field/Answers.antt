@@ -150,10 +150,10 @@ assignment-returns-in_err-add-clause-stays t c = λ colon.
     (w.0, remaining c.values.new.tokens, w.1, (c.kind.result, c.kind.ensures, sym c.holds_many.ensures ∙ c.if-holds_many.true, c.in_ok-values.values.items, w.2, c.in_err-add.ensures.left))
 
 pub assignment-returns-in_err-set-clause-stays : goal.assignment-returns-in_err-set-clause-stays
-assignment-returns-in_err-set-clause-stays t c = λ colon. kept _ c.args.message.now c.set.new.message c.from_residual-in_err-set.result c.in_err-set.ensures.left
+assignment-returns-in_err-set-clause-stays t c = λ colon. kept _ c.args.message.now c.set.new.message c.from_residual-in_err-set.result c.from_residual-in_err-set.ensures.1 c.in_err-set.ensures.left
 
 pub expansion-returns-in_default-clause-stays : goal.expansion-returns-in_default-clause-stays
-expansion-returns-in_default-clause-stays t c = λ colon. inl (refl, refl, refl)
+expansion-returns-in_default-clause-stays t c = λ colon. inl refl
 
 pub expansion-returns-in_err-body-clause-stays : goal.expansion-returns-in_err-body-clause-stays
 expansion-returns-in_err-body-clause-stays t c = λ colon. untouched _ c.args.message.now c.from_residual.result

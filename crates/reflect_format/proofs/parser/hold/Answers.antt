@@ -11,17 +11,17 @@ pub returns-in_default-clause-refused : goal.returns-in_default-clause-refused
 returns-in_default-clause-refused c = (c.descriptor.result, search rules, search rules)
 
 pub returns-in_default-clause-stays : goal.returns-in_default-clause-stays
-returns-in_default-clause-stays c = inl (refl, refl, refl)
+returns-in_default-clause-stays c = inl refl
 
 pub returns-in-Err-Memory-clause-stays : goal.returns-in-Err-Memory-clause-stays
-returns-in-Err-Memory-clause-stays c = inl (refl, refl, refl)
+returns-in-Err-Memory-clause-stays c = inl refl
 
 pub returns-in_err-type_url-clause-stays : goal.returns-in_err-type_url-clause-stays
 returns-in_err-type_url-clause-stays c = untouched _ c.args.message.now c.from_residual.result
 
 pub returns-in_err-set_field-clause-stays : goal.returns-in_err-set_field-clause-stays
 returns-in_err-set_field-clause-stays c =
-    kept _ c.args.message.now c.set_field.new.self c.from_residual-in_err-set_field.result (c.in_err-set_field.ensures.err, c.set_field.ensures.extensions, c.set_field.ensures.unknown)
+    kept _ c.args.message.now c.set_field.new.self c.from_residual-in_err-set_field.result c.from_residual-in_err-set_field.ensures.1 (c.in_err-set_field.ensures.err, c.set_field.ensures.extensions, c.set_field.ensures.unknown)
 
 pub returns-in_err-set_field-2-clause-stays : goal.returns-in_err-set_field-2-clause-stays
 returns-in_err-set_field-2-clause-stays c =
