@@ -3,6 +3,9 @@
 use Rattle.std.specs.Prelude.{◌≡◌, true, [], Some}
 use Rattle.reflect_tables.specs.Types.{PoolType, FieldType}
 use Rattle.reflect_contents.specs.Walked.{HoldsNothing}
+use Rattle.reflect_numbered.specs.Fits.{fit_of}
+use Rattle.reflect_numbered.specs.declared.validity.Strictness.TheVariants.{Surface}
+use Rattle.reflect_pool.specs.Same.{same_message}
 use Rattle.reflect_pool.specs.declared.kind.Kind.{Kind}
 use Rattle.reflect_pool.specs.declared.kind.Kind.TheVariants as kinds
 use Rattle.reflect_scalar.specs.Kinds as scalars
@@ -30,7 +33,12 @@ SaysNothing pool f v = elim (out-ValueOf MessageDescriptor v) [
   | ValueOf-F.Map es ↦ es.entries ≡ []
 ]
 
--- the default of a kind, or where this is a message, one in which nothing is set
+-- the value suits the field, its label and its type included, and says as much as its default
+abbrev pub IsDefaultFor : PoolType → FieldType → Value → Type 0
+IsDefaultFor pool f v = ((fit_of v).whole Surface pool f ≡ true) × SaysNothing pool f v
+
+-- the default of a kind, or where this is a message, one of the type in which nothing is set
 abbrev pub IsKindDefault : Kind → Value → Type 0
-IsKindDefault (kinds.Message d) v = (m : DynamicMessage) × (message_in v ≡ Some m) × HoldsNothing m
+IsKindDefault (kinds.Message d) v = (m : DynamicMessage) × (message_in v ≡ Some m)
+    × (same_message m.descriptor d ≡ true) × HoldsNothing m
 IsKindDefault kind v = scalars.IsDefault kind (single v)

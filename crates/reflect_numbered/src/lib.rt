@@ -11,4 +11,4 @@ pub use by_number::FieldsByNumber;
 pub use by_number_mut::{FieldsByNumberMut, NumberedFields};
 pub use lend_error::LendError;
 pub use set_field_error::{SetFieldError, TrySetField};
-pub use validity::{MessageTests, Strictness, is_valid_for, value_suits};
+pub use validity::{MessageTests, Strictness, content_suits, is_valid_for, value_suits};

@@ -94,9 +94,9 @@ fn map_suits<'p>(
     true
 }
 
-/// What a field holds suits it.
+/// What a field or an extension holds suits it, its label included.
 #[cycle(suits)]
-fn content_suits<'p>(value: &Value<'p>, field: AnyField<'p>, strictness: Strictness) -> bool
+pub fn content_suits<'p>(value: &Value<'p>, field: AnyField<'p>, strictness: Strictness) -> bool
     ensures { result ≡ (fit_of value.now).whole strictness (either_pool field.entry)
         (either_type field.entry) }
 {

@@ -117,12 +117,12 @@ On Does None n new = (n ≡ number_of code.Closed) × (new ≡ None)
 On Does (Some old) n new = (c : Code) × (s : Session) × (n ≡ number_of c) × (new ≡ Some s)
     × Does old c s
 
--- A slot that is opened holds a schema without files, for which nothing waits, or, where memory
--- runs out, nothing.
+-- A slot that is opened holds a schema without files, for which nothing waits and of which nothing
+-- was asked, or, where memory runs out, nothing.
 abbrev pub Opens : ℕ → Option Session → Type 0
 Opens n None = n ≡ number_of code.Memory
 Opens n (Some s) = (n ≡ number_of code.Done) × (pool s ≡ empty_pool) × (waiting s ≡ [])
-    × (answer s ≡ [])
+    × (answer s ≡ []) × IsFaultless s
 
 -- A text is copied to the front of a buffer where it fits; else nothing is.
 abbrev pub Copied : List ℕ → Code → List ℕ → List ℕ → Type 0
