@@ -1,7 +1,7 @@
 //! From a message to text.
 
-ghost use Rattle.std.specs.Prelude.{◌≡◌, IfErr, IfOk, OnOk, string_bytes};
-ghost use Rattle.text_lines.specs.Appends.{WritesOne};
+ghost use Rattle.std.specs.Prelude.{◌≡◌, IfErr, IfOk, string_bytes};
+ghost use Rattle.text_lines.specs.Appends.{UnlessOutputRefused, WritesOne};
 ghost use Rattle.text_lines.specs.UnknownTexts.{IsPayloadText, IsRecordText};
 ghost use Rattle.text_lines.specs.declared.error.WriteError.TheVariants.{Memory};
 ghost use Rattle.reflect_print.specs.MessageTexts.{IsItemsText, IsValueText, IsMessageText};
@@ -43,7 +43,7 @@ impl<'a, W: fmt::Write> Writer<'a, W> {
     pub fn fmt_message(&mut self, message: &DynamicMessage<'_>) -> Result<(), WriteError>
         ensures text { WritesOne W.write_str_gives self.old.lines.output.now result
             (IsMessageText self.old.lines.options message.now) self.new.lines.output.now }
-        ensures same { OnOk result
+        ensures same { UnlessOutputRefused result
             (self.new.lines.output.ghost_name ≡ self.old.lines.output.ghost_name) }
         ensures form { self.new.lines.options ≡ self.old.lines.options }
     {
@@ -60,7 +60,7 @@ impl<'a, W: fmt::Write> Writer<'a, W> {
         ensures text { WritesOne W.write_str_gives self.old.lines.output.now result
             (IsValueText self.old.lines.options 100 100 0 (kind_given kind.entry) value.now)
             self.new.lines.output.now }
-        ensures same { OnOk result
+        ensures same { UnlessOutputRefused result
             (self.new.lines.output.ghost_name ≡ self.old.lines.output.ghost_name) }
         ensures form { self.new.lines.options ≡ self.old.lines.options }
     {
@@ -74,7 +74,7 @@ impl<'a, W: fmt::Write> Writer<'a, W> {
             (IsRecordText self.old.lines.options.pretty
             (IsPayloadText 100 self.old.lines.options.pretty) 0 (field_view field.now))
             self.new.lines.output.now }
-        ensures same { OnOk result
+        ensures same { UnlessOutputRefused result
             (self.new.lines.output.ghost_name ≡ self.old.lines.output.ghost_name) }
         ensures form { self.new.lines.options ≡ self.old.lines.options }
     {

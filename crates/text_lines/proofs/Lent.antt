@@ -1,9 +1,9 @@
 -- Writing through a `&mut` to an output.
-use Rattle.std.proofs.Common.{◌≡◌, ℕ, List, [], ◌∷◌, Result, Ok, Err, IsErrAnd, OnOk, ap, subst, sym, ◌∙◌}
+use Rattle.std.proofs.Common.{◌≡◌, ℕ, List, [], ◌∷◌, Result, Ok, Err, IsErrAnd, ap, subst, sym, ◌∙◌}
 use Rattle.std.specs.Borrow.{MutBor}
 use Rattle.std.specs.List.{FoldsTo}
 use Rattle.std.specs.Fmt.{WritesInCalls}
-use Rattle.text_lines.specs.Appends.{Appends, UnlessRefused, WritesOne}
+use Rattle.text_lines.specs.Appends.{Appends, UnlessOutputRefused, UnlessRefused, WritesOne}
 use Rattle.text_lines.specs.declared.error.WriteError.{WriteError}
 use Rattle.text_lines.specs.declared.error.WriteError.TheVariants as errors
 
@@ -38,9 +38,11 @@ module _ {W : Type 0} (took : W → List ℕ → W → Type 0) where
   one_written s t (Err e) Is a = unless_refused s t e a
 
   pub same_reference : {T : Type 0} (s t : MutBor W) (r : Result T WriteError)
-      (Is : List ℕ → Type 0) → WritesOne Through s r Is t → OnOk r (t.ghost_name ≡ s.ghost_name)
+      (Is : List ℕ → Type 0) → WritesOne Through s r Is t
+      → UnlessOutputRefused r (t.ghost_name ≡ s.ghost_name)
   same_reference s t (Ok x) Is (text, is, wrote) = (written s t text wrote).1
-  same_reference s t (Err e) Is a = tt
+  same_reference s t (Err errors.Memory) Is a = (written s t a.text a.written).1
+  same_reference s t (Err errors.Format) Is a = tt
 
   -- a call that failed, passed on by `?`
   pub failed : {T : Type 0} (s t : MutBor W) (e : WriteError) (r : Result T WriteError)
@@ -49,3 +51,13 @@ module _ {W : Type 0} (took : W → List ℕ → W → Type 0) where
   failed s t e (Ok x) Is f q = elim f [ ]
   failed s t e (Err x) Is f q =
       subst (λ y. UnlessRefused y (Appends took s.now t.now)) (sym f) (unless_refused s t e q)
+
+  pub same_failed : {T : Type 0} (s t : MutBor W) (e : WriteError) (r : Result T WriteError)
+      → IsErrAnd r (λ f. f ≡ e) → UnlessRefused e (Appends Through s t)
+      → UnlessOutputRefused r (t.ghost_name ≡ s.ghost_name)
+  same_failed s t e (Ok x) f q = elim f [ ]
+  same_failed s t errors.Memory (Err x) f q =
+      subst (λ y. UnlessRefused y (t.ghost_name ≡ s.ghost_name)) (sym f)
+      (written s t q.text q.written).1
+  same_failed s t errors.Format (Err x) f q =
+      subst (λ y. UnlessRefused y (t.ghost_name ≡ s.ghost_name)) (sym f) tt

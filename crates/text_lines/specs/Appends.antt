@@ -14,6 +14,10 @@ abbrev pub UnlessRefused : WriteError → Type 0 → Type 0
 UnlessRefused errors.Memory P = P
 UnlessRefused errors.Format P = Unit {0}
 
+abbrev pub UnlessOutputRefused : {T : Type 0} → Result T WriteError → Type 0 → Type 0
+UnlessOutputRefused (Ok x) P = P
+UnlessOutputRefused (Err e) P = UnlessRefused e P
+
 -- The text was written behind what the output had; unless the output refused, at least some text
 -- was.
 abbrev pub Writes : {W T : Type 0} → (W → List ℕ → W → Type 0) → W → Result T WriteError → List ℕ
