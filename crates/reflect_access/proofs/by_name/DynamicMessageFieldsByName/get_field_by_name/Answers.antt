@@ -1,6 +1,6 @@
 use Rattle.std.proofs.Common.{inl, subst}
 use Rattle.reflect_pool.specs.declared.message.MessageDescriptor.{MessageDescriptor}
-use Rattle.reflect_numbered.specs.Called.{HasName, IsMeant}
+use Rattle.reflect_numbered.specs.Called.{HasName, HasNothing, IsMeant}
 use Rattle.reflect_numbered.proofs.Calling.{if_err}
 use Rattle.reflect_access.proofs.by_name.DynamicMessageFieldsByName.get_field_by_name.Goals as goal
 
@@ -14,4 +14,5 @@ pub returns-in_err-get_field-in-Some-clause-unset : goal.returns-in_err-get_fiel
 returns-in_err-get_field-in-Some-clause-unset c =
     let f = c.in-Some.field in
     let meant = subst (λ (d : MessageDescriptor). IsMeant (HasName c.args.name.now) d f) c.descriptor.ensures c.in-Some.ensures.meant in
-    if_err _ (f, meant, c.in_err-get_field-in-Some.ensures.unset)
+    let nothing : HasNothing (HasName c.args.name.now) c.args.self.now = (f, meant, c.in_err-get_field-in-Some.ensures.unset) in
+    if_err c.from_residual.result nothing
