@@ -1,0 +1,10 @@
+mod Deep
+mod Fitting
+mod Meaning
+mod Opened
+mod Staying
+mod Suiting
+mod Testing
+mod Told
+mod Typed
+mod Valid
