@@ -13,7 +13,8 @@ use Rattle.reflect_numbered.specs.declared.validity.Strictness.TheVariants.{Type
 use Rattle.message_view.specs.Shaped.{HasShape, IsShaped}
 use Rattle.message_view.specs.Sound.{IsSound}
 use Rattle.message_view.proofs.Deeper.{whole_shape}
-use Rattle.valid_view.specs.Tidy.{IsTidy, OfInner, Tidy}
+use Rattle.valid_view.specs.Inside.{EachMessage}
+use Rattle.valid_view.specs.Tidy.{IsTidy, OfHeld, Tidy}
 use Rattle.valid_view.proofs.Fitting.{of_type, whole_fits}
 use Rattle.valid_view.proofs.Opened.{kinds_of}
 use Rattle.valid_view.proofs.Testing.{extension_whole, field_whole, none_beside, none_unowned}
@@ -29,7 +30,7 @@ typed_kind pool t m is = let two = and_parts (has_type pool t m.descriptor) (sui
 
 module _ (exclusive : Bool) (pool : PoolType) (sound : IsSound pool) where
   module _ (levels : ℕ) (below : (m : DynamicMessage) → Tidy pool levels m → suits_type Types m ≡ true → HasShape exclusive levels m)
-      (m : DynamicMessage) (tidy : IsTidy pool m) (inner : OfInner (Tidy pool levels) m) (typed : suits_type Types m ≡ true) where
+      (m : DynamicMessage) (tidy : IsTidy pool m) (inner : OfHeld (EachMessage (Tidy pool levels)) m) (typed : suits_type Types m ≡ true) where
     abbrev d : MessageDescriptor
     d = m.descriptor
 

@@ -1,8 +1,11 @@
 mod Deep
+mod Deepening
 mod Fitting
+mod Kept
 mod Meaning
 mod Opened
 mod Staying
+mod Stemming
 mod Suiting
 mod Testing
 mod Told

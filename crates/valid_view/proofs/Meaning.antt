@@ -31,7 +31,8 @@ use Rattle.message_view.proofs.Oneofs.{rival_is_sibling}
 use Rattle.message_view.proofs.Sound.{named}
 use Rattle.set_view.proofs.Keyed.{extension_told, field_told}
 use Rattle.set_view.proofs.Viewed.{of_extension, of_field, view_at}
-use Rattle.valid_view.specs.Tidy.{IsSolid, IsTidy, OfInner}
+use Rattle.valid_view.specs.Inside.{EachMessage}
+use Rattle.valid_view.specs.Tidy.{IsSolid, IsTidy, OfHeld}
 use Rattle.valid_view.proofs.Opened.{kinds_of}
 use Rattle.valid_view.proofs.Suiting.{whole_suits}
 use Rattle.valid_view.proofs.Testing.{extension_whole, field_whole}
@@ -57,7 +58,7 @@ numbered n low high (r ∷ rs) up = by (r.0 == n) refl (numbered n r.0 high rs u
 
 -- ---- messages of one level, of which `Q` holds of those inside
 module _ (count : ℕ) (Q : DynamicMessage → Type 0) (inner : Name → Message → Type 0) (m : DynamicMessage) (sound : IsSound m.descriptor.pool.now) (typed : suits_type Types m ≡ true)
-    (tidy : IsTidy m.descriptor.pool.now m) (solid : IsSolid count m) (each : OfInner Q m)
+    (tidy : IsTidy m.descriptor.pool.now m) (solid : IsSolid count m) (each : OfHeld (EachMessage Q) m)
     (use_it : (t : KindType) (n : DynamicMessage) → kinds_of n Types m.descriptor.pool.now t ≡ true → Q n → (t ≡ types.message n.descriptor.index) × inner (name_at m.descriptor.pool.now n.descriptor.index) (view n)) where
   abbrev d : MessageDescriptor
   d = m.descriptor
@@ -74,14 +75,14 @@ module _ (count : ℕ) (Q : DynamicMessage → Type 0) (inner : Name → Message
   field_held f owns None at = refl
   field_held f owns (Some v) at =
       whole_suits Types d.pool.now Q inner use_it count (field_type f) (oneof_at d.pool.now d.index (field_type f)) false v
-      (whole_of Types d.pool.now (field_type f) v (field_whole Types m typed f owns v at)) (each.fields (field_type f).number v at) (solid.fields (field_type f).number v at)
+      (whole_of Types d.pool.now (field_type f) v (field_whole Types m typed f owns v at)) (each.fields (field_type f).number v at) (solid.values.fields (field_type f).number v at)
 
   extension_held : (x : ExtensionDescriptor) → OwnsExtension d x → (o : Option Value) → value_at (extensions_of m) (extension_type x).number ≡ o
       → IsHeldOf inner count (Some (field_of d.pool.now None true (extension_type x))) (held_in d.pool.now (extension_type x) (option_map content_view o))
   extension_held x owns None at = refl
   extension_held x owns (Some v) at =
       whole_suits Types d.pool.now Q inner use_it count (extension_type x) None true v
-      (whole_of Types d.pool.now (extension_type x) v (extension_whole Types m typed x owns v at)) (each.extensions (extension_type x).number v at) (solid.extensions (extension_type x).number v at)
+      (whole_of Types d.pool.now (extension_type x) v (extension_whole Types m typed x owns v at)) (each.extensions (extension_type x).number v at) (solid.values.extensions (extension_type x).number v at)
 
   -- a number of neither
   kept_view : (n : ℕ) → known_field d.pool.now d.index n ≡ None → known_extension d.pool.now d.index n ≡ None → view m n ≡ records (payloads n (unknown_of m))

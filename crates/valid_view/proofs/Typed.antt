@@ -15,7 +15,7 @@ use Rattle.message_view.specs.Sound.{IsSound}
 use Rattle.message_view.specs.Types.{name_at, types_of}
 use Rattle.message_view.specs.Views.{view}
 use Rattle.valid_view.specs.Inside.{EachMessage, IfMessage}
-use Rattle.valid_view.specs.Tidy.{IsSolid, IsTidy, OfInner, Solid, Tidy}
+use Rattle.valid_view.specs.Tidy.{IsSolid, IsTidy, OfHeld, Solid, Tidy}
 use Rattle.valid_view.proofs.Deep.{typed_kind}
 use Rattle.valid_view.proofs.Meaning.{typed_by}
 use Rattle.valid_view.proofs.Opened.{kinds_of}
@@ -41,7 +41,7 @@ module _ (P Q : DynamicMessage → Type 0) where
     entries = λ es at. both_entries es (p.entries es at) (q.entries es at);
   }
 
-  both_inner : (m : DynamicMessage) → OfInner P m → OfInner Q m → OfInner Both m
+  both_inner : (m : DynamicMessage) → OfHeld (EachMessage P) m → OfHeld (EachMessage Q) m → OfHeld (EachMessage Both) m
   both_inner m p q = record {
     fields = λ n v at. both_each v (p.fields n v at) (q.fields n v at);
     extensions = λ n v at. both_each v (p.extensions n v at) (q.extensions n v at);
@@ -49,7 +49,7 @@ module _ (P Q : DynamicMessage → Type 0) where
 
 module _ (pool : PoolType) (sound : IsSound pool) where
   -- one level, by the pool of the message itself
-  one_typed : (count : ℕ) (Q : DynamicMessage → Type 0) (inner : Name → Message → Type 0) (m : DynamicMessage) → suits_type Types m ≡ true → IsTidy pool m → IsSolid count m → OfInner Q m
+  one_typed : (count : ℕ) (Q : DynamicMessage → Type 0) (inner : Name → Message → Type 0) (m : DynamicMessage) → suits_type Types m ≡ true → IsTidy pool m → IsSolid count m → OfHeld (EachMessage Q) m
       → ((n : DynamicMessage) → suits_type Types n ≡ true → Q n → inner (name_at pool n.descriptor.index) (view n)) → IsTypedBy inner count (types_of pool (name_at pool m.descriptor.index)) (view m)
   one_typed count Q inner m typed tidy solid each below =
       let whole = typed_by count Q inner m (subst IsSound (sym tidy.pooled) sound) typed (subst (λ p. IsTidy p m) (sym tidy.pooled) tidy) solid each told in
@@ -59,8 +59,8 @@ module _ (pool : PoolType) (sound : IsSound pool) where
             let two = typed_kind m.descriptor.pool.now t n is in
             (two.0, subst (λ p. inner (name_at p n.descriptor.index) (view n)) (sym tidy.pooled) (below n two.1 q))
 
-  pub typed_suits : (levels : ℕ) (m : DynamicMessage) → Tidy pool (suc levels) m → Solid levels m → suits_type Types m ≡ true → IsTyped levels (types_of pool) (name_at pool m.descriptor.index) (view m)
-  typed_suits zero m h solid typed = one_typed zero (Tidy pool zero) (λ u n. ⊥) m typed h.0 solid h.1 (λ n is none. none)
+  pub typed_suits : (levels : ℕ) (m : DynamicMessage) → Tidy pool (suc levels) m → Solid (suc levels) m → suits_type Types m ≡ true → IsTyped levels (types_of pool) (name_at pool m.descriptor.index) (view m)
+  typed_suits zero m h solid typed = one_typed zero (Tidy pool zero) (λ u n. ⊥) m typed h.0 solid.0 h.1 (λ n is none. none)
   typed_suits (suc levels) m h solid typed =
-      one_typed (suc levels) (Both (Tidy pool (suc levels)) (Solid levels)) (IsTyped levels (types_of pool)) m typed h.0 solid.0
-      (both_inner (Tidy pool (suc levels)) (Solid levels) m h.1 solid.1) (λ n is both. typed_suits levels n both.0 both.1 is)
+      one_typed (suc levels) (Both (Tidy pool (suc levels)) (Solid (suc levels))) (IsTyped levels (types_of pool)) m typed h.0 solid.0
+      (both_inner (Tidy pool (suc levels)) (Solid (suc levels)) m h.1 solid.1) (λ n is both. typed_suits levels n both.0 both.1 is)

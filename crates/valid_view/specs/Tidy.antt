@@ -22,24 +22,23 @@ pub record IsTidy (pool : PoolType) (m : DynamicMessage) : Type 0 where
   pub declared : (n : ℕ) → IsDeclared m.descriptor n → payloads n (content_of m).unknown ≡ []
   pub exclusive : IsExclusive m
 
--- of each message that its fields and its extensions hold
-pub record OfInner (P : DynamicMessage → Type 0) (m : DynamicMessage) : Type 0 where
-  pub fields : (n : ℕ) (v : Value) → value_at (fields_of m) n ≡ Some v → EachMessage P v
-  pub extensions : (n : ℕ) (v : Value) → value_at (extensions_of m) n ≡ Some v → EachMessage P v
+-- of each value that its fields and its extensions hold
+pub record OfHeld (R : Value → Type 0) (m : DynamicMessage) : Type 0 where
+  pub fields : (n : ℕ) (v : Value) → value_at (fields_of m) n ≡ Some v → R v
+  pub extensions : (n : ℕ) (v : Value) → value_at (extensions_of m) n ≡ Some v → R v
 
 -- so is a message, and those inside it, of fewer levels than this
 abbrev pub Tidy : PoolType → ℕ → DynamicMessage → Type 0
 Tidy pool zero m = ⊥
-Tidy pool (suc levels) m = IsTidy pool m × OfInner (Tidy pool levels) m
+Tidy pool (suc levels) m = IsTidy pool m × OfHeld (EachMessage (Tidy pool levels)) m
 
 -- what a message holds is such as the types of the code have, and below each of its other records
 -- there are so many groups at most
 pub record IsSolid (levels : ℕ) (m : DynamicMessage) : Type 0 where
-  pub fields : (n : ℕ) (v : Value) → value_at (fields_of m) n ≡ Some v → IsWhole v
-  pub extensions : (n : ℕ) (v : Value) → value_at (extensions_of m) n ≡ Some v → IsWhole v
+  pub values : OfHeld IsWhole m
   pub records : (n : ℕ) → AllByRecursion (FitsPayload levels) (payloads n (content_of m).unknown)
 
--- so it is, and those inside it, with so many levels of them below
+-- so it is, and those inside it, of fewer levels than this
 abbrev pub Solid : ℕ → DynamicMessage → Type 0
-Solid zero m = IsSolid zero m
-Solid (suc levels) m = IsSolid (suc levels) m × OfInner (Solid levels) m
+Solid zero m = ⊥
+Solid (suc levels) m = IsSolid levels m × OfHeld (EachMessage (Solid levels)) m

@@ -4,6 +4,7 @@
 #![tactic(auto)]
 
 pub mod calls;
+pub mod keeping;
 pub mod laws;
 pub mod messages;
 mod whole;

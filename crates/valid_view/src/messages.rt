@@ -24,6 +24,6 @@ pub fn messages_that_are_typed_are_in_shape()
 /// the types of the code have: so its bytes mean it, and are read again as it was.
 pub fn messages_that_are_typed_suit_the_type()
     ensures { (pool : PoolType) → IsSound pool → (levels : ℕ) (m : DynamicMessage)
-        → Tidy pool (suc levels) m → Solid levels m → suits_type Types m ≡ true
+        → Tidy pool (suc levels) m → Solid (suc levels) m → suits_type Types m ≡ true
         → IsTyped levels (types_of pool) (name_at pool m.descriptor.index) (view m) }
 {}
