@@ -1,5 +1,5 @@
 -- Messages that suit their types at each depth, and are tidy, are in shape.
-use Rattle.std.proofs.Common.{◌≡◌, ℕ, zero, suc, Bool, true, Some, refl, sym, ◌∙◌, subst}
+use Rattle.std.proofs.Common.{◌≡◌, ℕ, zero, suc, Bool, true, sym, ◌∙◌, subst}
 use Rattle.std.proofs.lemmas.Bool.{and_parts}
 use Rattle.reflect_pool.specs.FieldsLeft.{field_type}
 use Rattle.reflect_pool.specs.declared.message.MessageDescriptor.{MessageDescriptor}

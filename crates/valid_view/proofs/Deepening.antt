@@ -1,6 +1,5 @@
 -- What is so of messages with some levels below is so with more.
-use Rattle.std.proofs.Common.{◌≡◌, ◌≤◌, ◌<◌, ◌-◌, ℕ, zero, suc, List, [], ◌∷◌, Some, arith}
-use Rattle.std.specs.List.{AllByRecursion}
+use Rattle.std.proofs.Common.{◌≤◌, ◌-◌, ℕ, zero, suc, arith}
 use Rattle.reflect_wire.specs.Records.{Payload, Records, delimited, fixed32, fixed64, group, more_records, no_records, varint}
 use Rattle.reflect_wire.specs.Written.{FitsPayload, FitsRecords}
 use Rattle.protobuf_model.proofs.Lists.{all_map}

@@ -1,5 +1,5 @@
 -- What a value is, and which fields it suits by that, one level at a time.
-use Rattle.std.proofs.Common.{◌≡◌, ℕ, Bool, List, map, Option, None, Some, refl, sym, ap, subst, string_bytes}
+use Rattle.std.proofs.Common.{◌≡◌, ℕ, Bool, List, map, Some, refl, sym, ap, subst, string_bytes}
 use Rattle.reflect_pool.specs.declared.message.MessageDescriptor.{MessageDescriptor}
 use Rattle.reflect_tables.specs.Types.{KindType, PoolType}
 use Rattle.reflect_scalar.specs.Singles as held

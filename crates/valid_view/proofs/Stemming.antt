@@ -15,7 +15,7 @@ use Rattle.reflect_tables.specs.Types.{PoolType}
 use Rattle.message_view.specs.Taken.{AllOrNothing}
 use Rattle.message_view.proofs.Changed.{StaysOrGoes}
 use Rattle.valid_view.specs.Inside.{EachMessage, IsWhole}
-use Rattle.valid_view.specs.Tidy.{IsSolid, IsTidy, OfHeld, Solid, Tidy}
+use Rattle.valid_view.specs.Tidy.{OfHeld, Solid, Tidy}
 
 -- each value stood there, or is a new one
 abbrev pub Stems : (Value → Type 0) → List (ℕ × Value) → List (ℕ × Value) → Type 0

@@ -1,5 +1,5 @@
 -- What values mean that suit a field by the tests suits the model's field, where those inside do.
-use Rattle.std.proofs.Common.{◌≡◌, ℕ, ◌||◌, not, Bool, true, false, cond, List, [], ◌∷◌, map, Option, None, Some, Ordering, Less, refl, sym, ap, ◌∙◌, subst}
+use Rattle.std.proofs.Common.{◌≡◌, ℕ, ◌||◌, not, Bool, true, false, cond, List, [], ◌∷◌, map, Option, Some, Ordering, refl, sym, ap, subst}
 use Rattle.std.specs.BTreeMap.{insert_entry}
 use Rattle.std.specs.List.{AllByRecursion}
 use Rattle.std.specs.List.Sorted.{IsStrictlySortedBy}
@@ -19,9 +19,7 @@ use Rattle.reflect_scalar.specs.Keys.{key_view}
 use Rattle.reflect_scalar.specs.Singles as held
 use Rattle.reflect_scalar.specs.Written.{Fits}
 use Rattle.reflect_scalar.specs.declared.map_key.MapKey.{MapKey}
-use Rattle.reflect_message.specs.Known.{entry_field}
-use Rattle.reflect_message.specs.Lists.{list_items}
-use Rattle.reflect_message.specs.Maps.{key_order, map_entries}
+use Rattle.reflect_message.specs.Maps.{key_order}
 use Rattle.reflect_message.specs.Names.{DynamicMessage, Value}
 use Rattle.reflect_numbered.specs.Fits.{is_one}
 use Rattle.reflect_numbered.specs.declared.validity.Strictness.{Strictness}

@@ -1,5 +1,5 @@
 -- What the tests of messages say of what stands under each number.
-use Rattle.std.proofs.Common.{◌≡◌, ℕ, ◌==◌, ◌&&◌, Bool, true, false, true≢false, cond, List, [], ◌∷◌, map, Option, None, Some, unwrap_or, refl, sym, ap, ◌∙◌, subst, arith}
+use Rattle.std.proofs.Common.{◌≡◌, ℕ, ◌==◌, ◌&&◌, Bool, true, false, true≢false, cond, List, [], ◌∷◌, Option, None, Some, unwrap_or, refl, sym, ap, ◌∙◌, subst, arith}
 use Rattle.std.proofs.lemmas.Bool.{and_parts}
 use Rattle.std.specs.List.{list_all}
 use Rattle.reflect_pool.specs.FieldsLeft.{field_type}
@@ -20,7 +20,7 @@ use Rattle.reflect_message.specs.declared.parts.HeldOf.TheOpen.{HeldOf-F}
 use Rattle.reflect_numbered.specs.Fits.{Fit, extension_fits, field_fits, fit_of, fits_of, held_step, message_step, parts_step, suits_type, under_fits, value_step}
 use Rattle.reflect_numbered.specs.declared.validity.Strictness.{Strictness}
 use Rattle.message_view.specs.Sound.{IsNotKept, IsSound}
-use Rattle.message_view.proofs.Fields.{extension_owned, its_place, known, known_extension_is, none_known, owned}
+use Rattle.message_view.proofs.Fields.{extension_owned, its_place, known_extension_is, none_known, owned}
 use Rattle.message_view.proofs.Seen.{entries_opened, extensions_opened}
 use Rattle.valid_view.proofs.Opened.{Kinded, Placed, held_fits}
 

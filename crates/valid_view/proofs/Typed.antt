@@ -1,6 +1,6 @@
 -- At each depth: messages that suit their types by the test suit the model's, where they are tidy
 -- and hold what is whole.
-use Rattle.std.proofs.Common.{◌≡◌, ℕ, zero, suc, true, List, [], ◌∷◌, Some, sym, subst}
+use Rattle.std.proofs.Common.{◌≡◌, ℕ, zero, suc, true, List, [], ◌∷◌, sym, subst}
 use Rattle.std.specs.List.{AllByRecursion}
 use Rattle.protobuf_model.specs.Typed.{IsTyped, IsTypedBy}
 use Rattle.protobuf_model.specs.Types.{Name}
