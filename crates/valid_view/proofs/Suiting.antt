@@ -87,7 +87,7 @@ module _ (how : Strictness) (pool : PoolType) (Q : DynamicMessage → Type 0) (i
   abbrev IsOfKind : Bool → KindType → Value → Type 0
   IsOfKind group t v = IsOf inner (kind_in pool group t) (content_view v)
 
-  one_suits : (group : Bool) (t : KindType) (v : Value) → One how pool t v → IfMessage Q v → IfSingle Fits v → IsOfKind group t v
+  pub one_suits : (group : Bool) (t : KindType) (v : Value) → One how pool t v → IfMessage Q v → IfSingle Fits v → IsOfKind group t v
   one_suits group t v (one_single w at is) inside bits =
       subst (IsOf inner (kind_in pool group t)) (sym (single_seen v w at))
       (subst (λ k. IsOf inner k (single (single_view w))) (sym (kind_scalar pool group t (of_scalar t w is))) (single_suits t w is (bits w at)))

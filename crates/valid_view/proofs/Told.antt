@@ -1,6 +1,6 @@
 -- What is valid for a field or an extension of a type suits the type under its number.
 use Rattle.std.proofs.Common.{◌≡◌, ℕ, suc, Bool, true, false, Option, None, Some, sym, subst}
-use Rattle.protobuf_model.specs.Typed.{IsHeldOf, IsTyped}
+use Rattle.protobuf_model.specs.Typed.{IsHeldOf, IsOf, IsTyped}
 use Rattle.protobuf_model.specs.Types.{Field, Name}
 use Rattle.protobuf_model.specs.Values.{Held, Message}
 use Rattle.reflect_pool.specs.FieldsLeft.{field_type}
@@ -12,18 +12,18 @@ use Rattle.reflect_tables.specs.Types as types
 use Rattle.reflect_scalar.specs.FieldTypes.{extension_type}
 use Rattle.reflect_message.specs.Declares.{NoField, Owns, OwnsExtension}
 use Rattle.reflect_message.specs.Names.{DynamicMessage, Value}
-use Rattle.reflect_numbered.specs.Fits.{IsValidFor}
+use Rattle.reflect_numbered.specs.Fits.{IsValidFor, fit_of}
 use Rattle.reflect_numbered.specs.declared.validity.Strictness.TheVariants.{Surface}
 use Rattle.message_view.specs.Sound.{IsSound}
-use Rattle.message_view.specs.Types.{field_of, name_at, oneof_at, types_of}
+use Rattle.message_view.specs.Types.{field_of, kind_in, name_at, oneof_at, types_of}
 use Rattle.message_view.specs.Views.{content_view, held_in, view}
 use Rattle.message_view.proofs.Fields.{owned}
 use Rattle.set_view.proofs.Keyed.{extension_told, field_told}
-use Rattle.valid_view.specs.Inside.{EachMessage, IsTypedIn, IsWhole}
+use Rattle.valid_view.specs.Inside.{EachMessage, IfMessage, IsTypedIn, IsWhole}
 use Rattle.valid_view.proofs.Fitting.{of_type}
 use Rattle.valid_view.proofs.Opened.{kinds_of}
-use Rattle.valid_view.proofs.Suiting.{whole_suits}
-use Rattle.valid_view.proofs.Valid.{whole_of}
+use Rattle.valid_view.proofs.Suiting.{one_suits, whole_suits}
+use Rattle.valid_view.proofs.Valid.{one_of, whole_of}
 
 module _ (levels : ℕ) where
   module _ (pool : PoolType) where
@@ -36,6 +36,11 @@ module _ (levels : ℕ) where
     valid_suits : (f : FieldType) (o : Option ℕ) (x : Bool) (v : Value) → IsValidFor pool f v → EachMessage (IsTypedIn levels pool) v → IsWhole v
         → IsHeldOf Below (suc levels) (Some (field_of pool o x f)) (held_in pool f (Some (content_view v)))
     valid_suits f o x v valid inside bits = whole_suits Surface pool (IsTypedIn levels pool) (IsTyped levels (types_of pool)) surface (suc levels) f o x v (whole_of Surface pool f v valid.1) inside bits
+
+    -- as one of the values of a list
+    pub valid_suits_one : (f : FieldType) (v : Value) → (fit_of v).one Surface pool f.kind ≡ true → IfMessage (IsTypedIn levels pool) v → IsWhole v
+        → IsOf (IsTyped levels (types_of pool)) (kind_in pool f.group f.kind) (content_view v)
+    valid_suits_one f v valid inside bits = one_suits Surface pool (IsTypedIn levels pool) (IsTyped levels (types_of pool)) surface f.group f.kind v (one_of Surface pool f.kind v valid) inside bits.values.itself
 
   module _ (d : MessageDescriptor) (sound : IsSound d.pool.now) where
     abbrev HeldUnder : ℕ → Held → Type 0

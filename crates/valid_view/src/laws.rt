@@ -3,7 +3,7 @@
 //! nothing. The messages that a value is or has are asked about apart: on the surface they are of
 //! their field's type, whatever they hold.
 ghost use Rattle.std.specs.Prelude.{◌≡◌, Bool, Some, suc, true, ℕ};
-ghost use Rattle.protobuf_model.specs.Typed.{IsHeldOf, IsTyped};
+ghost use Rattle.protobuf_model.specs.Typed.{IsHeldOf, IsOf, IsTyped};
 ghost use Rattle.reflect_message.specs.Declares.{NoField, Owns, OwnsExtension};
 ghost use Rattle.reflect_message.specs.Names.{Value};
 ghost use Rattle.reflect_numbered.specs.Fits.{IsValidFor, fit_of};
@@ -16,7 +16,7 @@ ghost use Rattle.reflect_scalar.specs.FieldTypes.{extension_type};
 ghost use Rattle.reflect_tables.specs.Types.{FieldType, PoolType};
 ghost use Rattle.message_view.specs.Shaped.{FitsOne, FitsShaped, HasShape};
 ghost use Rattle.message_view.specs.Sound.{IsSound};
-ghost use Rattle.message_view.specs.Types.{name_at, types_of};
+ghost use Rattle.message_view.specs.Types.{kind_in, name_at, types_of};
 ghost use Rattle.message_view.specs.Views.{content_view, held_in};
 ghost use Rattle.valid_view.specs.Inside.{EachMessage, IfMessage, IsShapedIn, IsTypedIn, IsWhole};
 
@@ -39,7 +39,7 @@ pub fn single_values_that_are_valid_fit()
 
 /// What is valid for a field of a type means, under the field's number, what suits the type, where
 /// each message in it suits its own. That numbers have their bits, texts are of UTF-8 and the keys
-/// of maps ascend is so of each value that the code has.
+/// of maps ascend is so of each value that the code has, as `values_are_whole` says.
 pub fn values_that_are_valid_suit()
     ensures { (levels : ℕ) (d : MessageDescriptor) → IsSound d.pool.now
         → (f : FieldDescriptor) → Owns d f
@@ -59,4 +59,12 @@ pub fn extension_values_that_are_valid_suit()
         → IsHeldOf (IsTyped levels (types_of d.pool.now)) (suc levels)
         (types_of d.pool.now (name_at d.pool.now d.index) (extension_type x).number)
         (held_in d.pool.now (extension_type x) (Some (content_view v))) }
+{}
+
+/// What is valid as one of the values of a list means one of the field's kind, as a list takes it.
+pub fn single_values_that_are_valid_suit()
+    ensures { (levels : ℕ) (pool : PoolType) (f : FieldType) (v : Value)
+        → (fit_of v).one Surface pool f.kind ≡ true → IfMessage (IsTypedIn levels pool) v
+        → IsWhole v
+        → IsOf (IsTyped levels (types_of pool)) (kind_in pool f.group f.kind) (content_view v) }
 {}
