@@ -1,0 +1,13 @@
+mod Deep
+mod Deepening
+mod Fitting
+mod Kept
+mod Meaning
+mod Opened
+mod Staying
+mod Stemming
+mod Suiting
+mod Testing
+mod Told
+mod Typed
+mod Valid

@@ -1,0 +1,69 @@
+-- What a value is, and which fields it suits by that, one level at a time.
+use Rattle.std.proofs.Common.{◌≡◌, ℕ, Bool, List, map, Some, refl, sym, ap, subst, string_bytes}
+use Rattle.reflect_pool.specs.declared.message.MessageDescriptor.{MessageDescriptor}
+use Rattle.reflect_tables.specs.Types.{KindType, PoolType}
+use Rattle.reflect_scalar.specs.Singles as held
+use Rattle.reflect_scalar.specs.declared.map_key.MapKey.{MapKey}
+use Rattle.reflect_message.specs.Names as blocks
+use Rattle.reflect_message.specs.Names.{DynamicMessage, Parts, Value}
+use Rattle.reflect_message.specs.declared.parts.HeldOf.TheFolds.{map-ValueOf, fold-HeldOf, fold-ValueOf, fold-MessageOf, fold-PartsOf, fold_out-ValueOf, fold_out-MessageOf}
+use Rattle.reflect_message.specs.declared.parts.HeldOf.TheOpen.{ValueOf-F}
+use Rattle.reflect_message.specs.declared.parts.HeldOf.TheViews.{out-ValueOf}
+use Rattle.reflect_message.proofs.Alike.{Open, entries_in, items_in, message_of}
+use Rattle.reflect_numbered.specs.Fits.{Fit, fit_of, held_step, list_fit, map_fit, message_fit, message_fits, message_step, parts_step, single_fit, value_step}
+use Rattle.reflect_numbered.specs.declared.validity.Strictness.{Strictness}
+use Rattle.message_view.proofs.Seen.{single_in}
+
+abbrev pub Placed : Type 0
+Placed = Strictness → PoolType → ℕ → Bool
+
+abbrev pub Kinded : Type 0
+Kinded = Strictness → PoolType → KindType → Bool
+
+-- one level of a value, with what is inside it told
+abbrev stepped : Open → Fit
+stepped o = value_step (map-ValueOf MessageDescriptor blocks.Held Value DynamicMessage Parts Placed Fit Kinded Placed
+    (fold-HeldOf MessageDescriptor Placed Fit Kinded Placed held_step value_step message_step parts_step)
+    (fold-ValueOf MessageDescriptor Placed Fit Kinded Placed held_step value_step message_step parts_step)
+    (fold-MessageOf MessageDescriptor Placed Fit Kinded Placed held_step value_step message_step parts_step)
+    (fold-PartsOf MessageDescriptor Placed Fit Kinded Placed held_step value_step message_step parts_step) o)
+
+opened : (v : Value) → fit_of v ≡ stepped (out-ValueOf MessageDescriptor v)
+opened v = fold_out-ValueOf MessageDescriptor Placed Fit Kinded Placed held_step value_step message_step parts_step v
+
+-- what a message holds suits the type at a place
+abbrev pub held_fits : blocks.Held → Placed
+held_fits = fold-HeldOf MessageDescriptor Placed Fit Kinded Placed held_step value_step message_step parts_step
+
+-- the kinds that a message suits
+abbrev pub kinds_of : DynamicMessage → Kinded
+kinds_of m = λ how pool kind. message_fits how pool kind m.descriptor (held_fits m.held)
+
+folded : (m : DynamicMessage) → fold-MessageOf MessageDescriptor Placed Fit Kinded Placed held_step value_step message_step parts_step m ≡ kinds_of m
+folded m = fold_out-MessageOf MessageDescriptor Placed Fit Kinded Placed held_step value_step message_step parts_step m
+
+abbrev pub fits_in : List (MapKey × Value) → List (MapKey × Fit)
+fits_in es = map (λ e. (e.0, fit_of e.1)) es
+
+-- an opened value is a single one, a message, a list or a map, and suits fields so
+pub data Sorted (o : Open) (w : Fit) : Type 0 where
+  a_single : (s : held.Single) → single_in o ≡ Some s → w ≡ single_fit s → Sorted o w
+  a_message : (m : DynamicMessage) → message_of o ≡ Some m → w ≡ message_fit (kinds_of m) → Sorted o w
+  a_list : (vs : List Value) → items_in o ≡ Some vs → w ≡ list_fit (map fit_of vs) → Sorted o w
+  a_map : (es : List (MapKey × Value)) → entries_in o ≡ Some es → w ≡ map_fit (fits_in es) → Sorted o w
+
+step_sorted : (o : Open) → Sorted o (stepped o)
+step_sorted (ValueOf-F.Bool b) = a_single (held.truth b) refl refl
+step_sorted (ValueOf-F.I32 z) = a_single (held.int32 z) refl refl
+step_sorted (ValueOf-F.I64 z) = a_single (held.int64 z) refl refl
+step_sorted (ValueOf-F.U32 n) = a_single (held.uint32 n) refl refl
+step_sorted (ValueOf-F.U64 n) = a_single (held.uint64 n) refl refl
+step_sorted (ValueOf-F.String t) = a_single (held.text (string_bytes t)) refl refl
+step_sorted (ValueOf-F.Bytes b) = a_single (held.blob b.items) refl refl
+step_sorted (ValueOf-F.EnumNumber z) = a_single (held.enumerated z) refl refl
+step_sorted (ValueOf-F.Message m) = a_message m refl (ap message_fit (folded m))
+step_sorted (ValueOf-F.List vs) = a_list vs.items refl refl
+step_sorted (ValueOf-F.Map es) = a_map es.entries refl refl
+
+pub sorted : (v : Value) → Sorted (out-ValueOf MessageDescriptor v) (fit_of v)
+sorted v = subst (Sorted (out-ValueOf MessageDescriptor v)) (sym (opened v)) (step_sorted (out-ValueOf MessageDescriptor v))

@@ -1,0 +1,8 @@
+use Rattle.valid_view.proofs.Kept.{set_solid, set_tidy}
+use Rattle.valid_view.proofs.keeping.set_fields_leave_messages_tidy.Goals as goal
+
+pub returns-clause-tidy : goal.returns-clause-tidy
+returns-clause-tidy c = set_tidy
+
+pub returns-clause-solid : goal.returns-clause-solid
+returns-clause-solid c = set_solid

@@ -1,0 +1,8 @@
+use Rattle.valid_view.proofs.Kept.{unset_extension_solid, unset_extension_tidy}
+use Rattle.valid_view.proofs.keeping.unset_extensions_leave_messages_tidy.Goals as goal
+
+pub returns-clause-tidy : goal.returns-clause-tidy
+returns-clause-tidy c = unset_extension_tidy
+
+pub returns-clause-solid : goal.returns-clause-solid
+returns-clause-solid c = unset_extension_solid
