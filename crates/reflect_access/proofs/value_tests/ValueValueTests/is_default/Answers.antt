@@ -14,9 +14,11 @@ returns-in-Message-Message c =
     let d = c.in-Message-Message.wanted in
     let there : message_in v ≡ Some m = search (rules, the_lemmas) in
     let kind = c.in-Message-Message.is-1 in (
-      λ yes. subst (λ k. IsKindDefault k v) (sym kind) (m, there, c.is_empty_of.ensures.0 yes),
+      λ yes.
+          let it = c.is_empty_of.ensures.0 yes in
+          subst (λ k. IsKindDefault k v) (sym kind) (m, there, it.0, it.1),
       λ h.
           let held = subst (λ k. IsKindDefault k v) kind h in
           let same : held.0 ≡ m = cc (held.1, there) in
-          c.is_empty_of.ensures.1 (subst (λ (m : DynamicMessage). (same_message m.descriptor d ≡ true) × HoldsNothing m) same held.2),
+          c.is_empty_of.ensures.1 (subst (λ (m : DynamicMessage). (same_message m.descriptor d ≡ true) × HoldsNothing m) same (held.2, held.3)),
     )
