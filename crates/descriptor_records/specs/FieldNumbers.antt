@@ -30,6 +30,11 @@ type_number types.Sfixed64 = pos 16
 type_number types.Sint32 = pos 17
 type_number types.Sint64 = pos 18
 
+-- the label of a number; none where no label has it
+abbrev pub IsLabelOf : ℤ → Option Label → Type 0
+IsLabelOf n (Some l) = label_number l ≡ n
+IsLabelOf n None = (l : Label) → label_number l ≡ n → ⊥
+
 -- the type of a number; none where no type has it
 abbrev pub IsTypeOf : ℤ → Option FieldType → Type 0
 IsTypeOf n (Some t) = type_number t ≡ n

@@ -1,2 +1,3 @@
 pub mod Content
+pub mod Empty
 pub mod FieldNumbers

@@ -1,5 +1,6 @@
 ghost use Rattle.std.specs.Prelude.{◌≡◌};
 ghost use Rattle.descriptor_records.specs.Content.{enum_value_view, enum_view};
+ghost use Rattle.descriptor_records.specs.Empty.{empty_enum};
 
 use crate::options::Options;
 use std::alloc::{AllocError, Global};
@@ -16,7 +17,9 @@ pub struct EnumDescriptorProto {
 
 impl EnumDescriptorProto {
     /// An enum type without a name and without values. Takes no memory.
-    pub fn new(alloc: Global) -> EnumDescriptorProto {
+    pub fn new(alloc: Global) -> EnumDescriptorProto
+        ensures { enum_view result ≡ empty_enum }
+    {
         EnumDescriptorProto {
             name: None,
             value: Vec::new(alloc),

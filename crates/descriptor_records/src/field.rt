@@ -1,6 +1,7 @@
 ghost use Rattle.std.specs.Prelude.{◌≡◌};
 ghost use Rattle.descriptor_records.specs.Content.{field_view, oneof_view};
-ghost use Rattle.descriptor_records.specs.FieldNumbers.{label_number, type_number, IsTypeOf};
+ghost use Rattle.descriptor_records.specs.Empty.{empty_field};
+ghost use Rattle.descriptor_records.specs.FieldNumbers.{label_number, type_number, IsLabelOf, IsTypeOf};
 
 use crate::options::Options;
 use std::alloc::AllocError;
@@ -33,7 +34,9 @@ pub struct FieldDescriptorProto {
 
 impl FieldDescriptorProto {
     /// A field without a name and without content. Takes no memory.
-    pub fn new() -> FieldDescriptorProto {
+    pub fn new() -> FieldDescriptorProto
+        ensures { field_view result ≡ empty_field }
+    {
         FieldDescriptorProto {
             name: None,
             number: None,
@@ -74,7 +77,9 @@ impl Label {
     }
 
     /// The label of a number, if there is one.
-    pub fn from_number(number: i32) -> Option<Label> {
+    pub fn from_number(number: i32) -> Option<Label>
+        ensures { IsLabelOf number result }
+    {
         match number {
             1 => Some(Label::Optional),
             2 => Some(Label::Required),

@@ -1,5 +1,6 @@
 ghost use Rattle.std.specs.Prelude.{◌≡◌};
 ghost use Rattle.descriptor_records.specs.Content.{file_view, set_view};
+ghost use Rattle.descriptor_records.specs.Empty.{empty_file};
 
 use crate::enums::EnumDescriptorProto;
 use crate::field::FieldDescriptorProto;
@@ -39,7 +40,9 @@ pub struct FileDescriptorProto {
 
 impl FileDescriptorProto {
     /// A file without a name and without content. Takes no memory.
-    pub fn new(alloc: Global) -> FileDescriptorProto {
+    pub fn new(alloc: Global) -> FileDescriptorProto
+        ensures { file_view result ≡ empty_file }
+    {
         FileDescriptorProto {
             name: None,
             package: None,

@@ -1,5 +1,6 @@
 ghost use Rattle.std.specs.Prelude.{◌≡◌, IfOk, map};
 ghost use Rattle.descriptor_records.specs.Content.{extension_range_view, message_view};
+ghost use Rattle.descriptor_records.specs.Empty.{empty_message};
 
 use crate::enums::EnumDescriptorProto;
 use crate::field::{FieldDescriptorProto, OneofDescriptorProto};
@@ -24,7 +25,9 @@ pub struct DescriptorProto {
 
 impl DescriptorProto {
     /// A message type without a name and without content. Takes no memory.
-    pub fn new(alloc: Global) -> DescriptorProto {
+    pub fn new(alloc: Global) -> DescriptorProto
+        ensures { message_view result ≡ empty_message }
+    {
         DescriptorProto {
             name: None,
             field: Vec::new(alloc),

@@ -1,5 +1,6 @@
 ghost use Rattle.std.specs.Prelude.{◌≡◌};
 ghost use Rattle.descriptor_records.specs.Content.{double_view, name_view, option_view, options_view};
+ghost use Rattle.descriptor_records.specs.Empty.{empty_option, empty_options};
 
 use std::alloc::{AllocError, Global};
 
@@ -24,7 +25,9 @@ pub struct Options {
 
 impl Options {
     /// No options. Takes no memory.
-    pub fn new(alloc: Global) -> Options {
+    pub fn new(alloc: Global) -> Options
+        ensures { options_view result ≡ empty_options }
+    {
         Options {
             encoded: Vec::new(alloc),
             packed: None,
@@ -50,7 +53,9 @@ pub struct UninterpretedOption {
 
 impl UninterpretedOption {
     /// An option without a name and without a value. Takes no memory.
-    pub fn new(alloc: Global) -> UninterpretedOption {
+    pub fn new(alloc: Global) -> UninterpretedOption
+        ensures { option_view result ≡ empty_option }
+    {
         UninterpretedOption {
             name: Vec::new(alloc),
             identifier_value: None,

@@ -1,4 +1,5 @@
 pub mod AnyParts
 pub mod Choosing
+pub mod Giving
 pub mod Listing
 pub mod Urls

@@ -7,11 +7,11 @@ use Rattle.reflect_wire.specs.Records.{Payload}
 use Rattle.reflect_entries.specs.Entries.{value_at}
 use Rattle.reflect_tables.specs.Types.{PoolType, FieldType, type_at}
 use Rattle.reflect_message.specs.Held.{fields_of, unknown_of}
-use Rattle.reflect_message.specs.Known.{known_field, known_extension}
+use Rattle.reflect_message.specs.Known.{if_held, known_field, known_extension}
 use Rattle.reflect_message.specs.Present.{is_held}
 use Rattle.reflect_message.specs.Shown.{IsHeldOrDefault}
 use Rattle.reflect_message.specs.Names.{DynamicMessage, Value}
-use Rattle.reflect_contents.specs.Walked.{Holding, set_fields_of, set_extensions_of}
+use Rattle.reflect_contents.specs.Walked.{ExtensionGiven, Holding, set_fields_of, set_extensions_of}
 use Rattle.text_lines.specs.declared.options.FormatOptions.{FormatOptions}
 use Rattle.print_parts.specs.Pairwise.{Pairwise}
 
@@ -100,6 +100,10 @@ AreDeclared form m es =
 abbrev pub known_entry : DynamicMessage → ℕ → Value → Option Entry
 known_entry m n v =
     option_map (λ f. extension (pool_of m) f v) (known_extension (pool_of m) m.descriptor.index n)
+
+-- the same of an extension that is given with its pool and what it holds
+abbrev pub given_entry : ExtensionGiven → Option Entry
+given_entry g = option_map (λ f. extension g.0 f g.1.1) (if_held g.0 g.1.0)
 
 -- the extensions that are set, by ascending number
 abbrev pub extension_entries : DynamicMessage → List Entry

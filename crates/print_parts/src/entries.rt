@@ -3,14 +3,15 @@
 ghost use Rattle.std.specs.Prelude.{◌≡◌, ◌++◌, IfOk, OnOk, map};
 ghost use Rattle.reflect_message.specs.Held.{unknown_of};
 ghost use Rattle.reflect_pool.specs.FieldsLeft.{field_type};
+ghost use Rattle.reflect_scalar.specs.FieldTypes.{extension_pool, extension_type};
 ghost use Rattle.print_parts.specs.Entries.{
   AreChosen,
   AreOthers,
   ArePrinted,
   PutsField,
   extension_entries,
+  given_entry,
   is_printed,
-  known_entry,
   number_of,
   option_list,
   undeclared,
@@ -18,8 +19,9 @@ ghost use Rattle.print_parts.specs.Entries.{
 ghost use Rattle.print_parts.specs.Parts.{declared_entry, other_entry};
 
 use reflect_contents::MessageWalks;
-use reflect_message::{DynamicMessage, FieldRef, Value, declared_extension, declared_field};
+use reflect_message::{DynamicMessage, FieldRef, Value, declared_field};
 use reflect_pool::{ExtensionDescriptor, FieldDescriptor};
+use reflect_scalar::holds_floats;
 use reflect_wire::UnknownField;
 use std::alloc::{AllocError, Global};
 use text_lines::FormatOptions;
@@ -142,23 +144,22 @@ fn push_extensions<'m, 'p>(
         ≡ map other_entry others.old.items ++ extension_entries message.now) }
 {
     for (extension, value) in message.extensions() {
-        push_extension(others, message, extension.number(), value)?;
+        push_extension(others, extension, value)?;
     }
     Ok(())
 }
 
-/// Puts the extension of the number behind the others: the one that the message's own type says.
+/// Puts the extension behind the others, if messages hold it.
 fn push_extension<'m, 'p>(
     others: &mut Vec<Other<'m, 'p>>,
-    message: &'m DynamicMessage<'p>,
-    number: u32,
+    extension: ExtensionDescriptor<'p>,
     value: &'m Value<'p>,
 ) -> Result<(), AllocError>
     ensures { OnOk result (map other_entry others.new.items
-        ≡ map other_entry others.old.items
-        ++ option_list (known_entry message.now number value.now)) }
+        ≡ map other_entry others.old.items ++ option_list (given_entry
+        (extension_pool extension.entry, (extension_type extension.entry, value.now)))) }
 {
-    if let Some(extension) = declared_extension(message.descriptor(), number) {
+    if !holds_floats(&extension) {
         others.push(Other::Extension(extension, value))?;
     }
     Ok(())

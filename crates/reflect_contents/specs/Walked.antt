@@ -67,14 +67,21 @@ field_lent p = (p.0.message, (field_type p.0, p.1.now))
 abbrev pub field_given : FieldDescriptor × Value → FieldGiven
 field_given p = (p.0.message, (field_type p.0, p.1))
 
-abbrev pub extension_lent : ExtensionDescriptor × Bor Value → Holding
-extension_lent p = (extension_type p.0, p.1.now)
+-- of an extension: its descriptor's pool, and what it is and holds
+abbrev pub ExtensionGiven : Type 0
+ExtensionGiven = PoolType × Holding
 
-abbrev pub extension_given : ExtensionDescriptor × Value → Holding
-extension_given p = (extension_type p.0, p.1)
+abbrev pub extension_lent : ExtensionDescriptor × Bor Value → ExtensionGiven
+extension_lent p = (p.0.pool.now, (extension_type p.0, p.1.now))
+
+abbrev pub extension_given : ExtensionDescriptor × Value → ExtensionGiven
+extension_given p = (p.0.pool.now, (extension_type p.0, p.1))
 
 abbrev pub of_message : MessageDescriptor → List Holding → List FieldGiven
 of_message m hs = map (λ h. (m, h)) hs
+
+abbrev pub in_pool : PoolType → List Holding → List ExtensionGiven
+in_pool pool hs = map (λ h. (pool, h)) hs
 
 -- what walks have ahead
 abbrev pub fields_left : FieldValues → List FieldGiven
@@ -82,15 +89,17 @@ fields_left s =
     of_message s.descriptor
     (set_fields s.descriptor.pool.now s.descriptor.index (walked_left s.entries))
 
-abbrev pub extensions_left : ExtensionValues → List Holding
+abbrev pub extensions_left : ExtensionValues → List ExtensionGiven
 extensions_left s =
-    set_extensions s.descriptor.pool.now s.descriptor.index (walked_left s.entries)
+    in_pool s.descriptor.pool.now
+    (set_extensions s.descriptor.pool.now s.descriptor.index (walked_left s.entries))
 
 abbrev pub taken_fields_left : TakenFields → List FieldGiven
 taken_fields_left s =
     of_message s.descriptor
     (set_fields s.descriptor.pool.now s.descriptor.index (taken s.entries))
 
-abbrev pub taken_extensions_left : TakenExtensions → List Holding
+abbrev pub taken_extensions_left : TakenExtensions → List ExtensionGiven
 taken_extensions_left s =
-    set_extensions s.descriptor.pool.now s.descriptor.index (taken s.entries)
+    in_pool s.descriptor.pool.now
+    (set_extensions s.descriptor.pool.now s.descriptor.index (taken s.entries))

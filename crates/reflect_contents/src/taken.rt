@@ -4,7 +4,7 @@ ghost use Rattle.std.specs.Prelude.{◌≡◌, ◌++◌, ◌∷◌, [], IfOk, On
 ghost use Rattle.reflect_wire.specs.Views.{field_view};
 ghost use Rattle.reflect_message.specs.Held.{fields_of, extensions_of, unknown_of};
 ghost use Rattle.reflect_message.specs.Oneofs.{IsExclusive};
-ghost use Rattle.reflect_contents.specs.Walked.{of_message, set_extensions_of, set_fields_of, taken_extensions_left, taken_fields_left};
+ghost use Rattle.reflect_contents.specs.Walked.{in_pool, of_message, set_extensions_of, set_fields_of, taken_extensions_left, taken_fields_left};
 
 use crate::walks::{MessageWalks, extension_if_set, field_if_set};
 use reflect_entries::{Entries, entries};
@@ -36,7 +36,8 @@ pub trait TakeContents<'p> {
     /// number. Takes no memory.
     fn take_extensions(&mut self) -> TakenExtensions<'p>
         ensures type_stays { (message self.new).descriptor ≡ (message self.old).descriptor }
-        ensures given { taken_extensions_left result ≡ set_extensions_of (message self.old) }
+        ensures given { taken_extensions_left result
+            ≡ in_pool (message self.old).descriptor.pool.now (set_extensions_of (message self.old)) }
         ensures fields { fields_of (message self.new) ≡ fields_of (message self.old) }
         ensures exclusive { IsExclusive (message self.old) → IsExclusive (message self.new) }
         ensures extensions { extensions_of (message self.new) ≡ [] }

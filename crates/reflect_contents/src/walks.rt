@@ -7,7 +7,7 @@ ghost use Rattle.reflect_scalar.specs.FieldTypes.{extension_type};
 ghost use Rattle.reflect_message.specs.Held.{fields_of, extensions_of, unknown_of};
 ghost use Rattle.reflect_contents.specs.EntriesLeft.{walked_left};
 ghost use Rattle.reflect_contents.specs.Left.{records_left};
-ghost use Rattle.reflect_contents.specs.Walked.{HoldsNothing, extensions_left, fields_left, of_message, set_extension, set_extensions_of, set_field, set_fields_of};
+ghost use Rattle.reflect_contents.specs.Walked.{HoldsNothing, extensions_left, fields_left, in_pool, of_message, set_extension, set_extensions_of, set_field, set_fields_of};
 
 use reflect_entries::entries;
 use reflect_message::{DynamicMessage, Held, MessageParts, Value, is_present};
@@ -28,7 +28,8 @@ pub trait MessageWalks<'p> {
 
     /// The extensions that are set, with what they hold, by ascending number. Takes no memory.
     fn extensions(&self) -> ExtensionValues<'_, 'p>
-        ensures { extensions_left result ≡ set_extensions_of (message self.now) };
+        ensures { extensions_left result ≡ in_pool (message self.now).descriptor.pool.now
+            (set_extensions_of (message self.now)) };
 
     /// The records of numbers that the type does not declare, by ascending number, those of a
     /// number as they came. Takes no memory.
@@ -123,7 +124,8 @@ pub fn extension_if_set<'p>(
     number: u32,
     value: &Value<'p>,
 ) -> Option<ExtensionDescriptor<'p>>
-    ensures { option_map (λ x. (extension_type x, value.now)) result
+    ensures pool { IfSome result (λ x. x.pool.now ≡ descriptor.entry.pool.now) }
+    ensures set { option_map (λ x. (extension_type x, value.now)) result
         ≡ set_extension descriptor.entry.pool.now descriptor.entry.index (number, value.now) }
 {
     match descriptor.get_extension(number) {

@@ -9,7 +9,6 @@ use Rattle.text_error.specs.declared.error.ParseErrorKind.TheVariants as kinds
 use Rattle.reflect_message.specs.Names.{DynamicMessage}
 use Rattle.reflect_format.specs.Begun.{Begins}
 use Rattle.reflect_format.specs.Filled.{Fills}
-use Rattle.reflect_format.specs.Steps.{Stays}
 use Rattle.reflect_format.specs.Unfit.{IsUnfitField}
 
 -- a tree is there of which P holds, and the rest stands behind it
@@ -29,9 +28,9 @@ Refutes {A} r P kind = IsCause ((x : A) (rest : List Lexeme) → r ≡ Some (x, 
 abbrev pub There : {A : Type 0} → Read A → (A → Type 0) → Type 0
 There {A} r P = (x : A) × (rest : List Lexeme) × (r ≡ Some (x, rest)) × P x
 
--- the message stays as it is, unless memory ran out; then what it holds stays, or P holds
+-- the message stays as it is, unless memory ran out; then P holds
 abbrev pub StaysUnless : Type 0 → ParseErrorKind → DynamicMessage → DynamicMessage → Type 0
-StaysUnless P kind old new = (new ≡ old) ⊎ ((kind ≡ kinds.Memory) × (Stays old new ⊎ P))
+StaysUnless P kind old new = (new ≡ old) ⊎ ((kind ≡ kinds.Memory) × P)
 
 -- the field that is there is refused, and the message does not have it but in part, for want of
 -- memory

@@ -14,7 +14,7 @@ use Rattle.reflect_message.specs.Present.{is_held}
 use Rattle.reflect_message.specs.Names.{DynamicMessage, Value}
 use Rattle.reflect_format.specs.Kinds.{single_of}
 use Rattle.reflect_extend.specs.Puts.{PutsEntries, PutsSome}
-use Rattle.reflect_extend.specs.Siblings.{LacksSibling}
+use Rattle.reflect_extend.specs.Siblings.{KeepsRest, LacksSibling}
 use Rattle.reflect_format.specs.Takes.{holds_many, target_pool, target_type}
 use Rattle.reflect_format.specs.declared.target.Target.{Target}
 use Rattle.reflect_format.specs.declared.target.Target.TheVariants as targets
@@ -79,13 +79,24 @@ AddsValues t vs old new = ChangesOnly t old new
     × StaysExclusive t old new × StaysAscending old new
     × (holds_many t ≡ true → Frees t old new)
 
+-- what is held stays, and of each oneof one member at most
+abbrev pub Leaves : Target → DynamicMessage → DynamicMessage → Type 0
+Leaves t old new = Stays old new × StaysExclusive t old new
+
+-- nothing is changed but what stands under the number of the field or the extension
+abbrev pub ChangesIt : Target → DynamicMessage → DynamicMessage → Type 0
+ChangesIt (targets.Field f) old new = KeepsRest f (fields_of old) (fields_of new)
+    × (extensions_of new ≡ extensions_of old) × (unknown_of new ≡ unknown_of old)
+ChangesIt (targets.Extension x) old new = ChangesOnly (targets.Extension x) old new
+
 -- a list keeps its values, and of the entries that the values are the first are put into a map
 abbrev pub AddsPart : Target → List Value → DynamicMessage → DynamicMessage → Type 0
-AddsPart t vs old new = ChangesOnly t old new
+AddsPart t vs old new = ChangesIt t old new
     × (holds_list (target_pool t) (target_type t) ≡ true
     → KeepsList (held_by old t) (held_by new t))
     × (holds_map (target_pool t) (target_type t) ≡ true
     → PutsSome (held_by old t) (held_by new t) vs)
+    × StaysExclusive t old new × StaysAscending old new
 
 -- the field of the number, one of the message's type, gets what is given
 abbrev pub SetsNumber : ℕ → Single → DynamicMessage → DynamicMessage → Type 0
@@ -93,3 +104,8 @@ SetsNumber n x old new =
     (f : FieldDescriptor) × (v : Value) × Declares old.descriptor f × ((field_type f).number ≡ n)
     × (single_of v ≡ Some x) × SetsField old new f v × StaysExclusive (targets.Field f) old new
     × StaysAscending old new
+
+-- the field of the number, one of the message's type, is left
+abbrev pub LeavesNumber : ℕ → DynamicMessage → DynamicMessage → Type 0
+LeavesNumber n old new = (f : FieldDescriptor) × Declares old.descriptor f
+    × ((field_type f).number ≡ n) × Leaves (targets.Field f) old new

@@ -1,7 +1,7 @@
 //! From text to a message.
 
 ghost use Rattle.reflect_any.specs.Any.{IsAny};
-ghost use Rattle.reflect_format.specs.Begun.{AddsSome, Begins, HoldsUrl};
+ghost use Rattle.reflect_format.specs.Begun.{Begins, BeginsAny, BeginsTarget};
 ghost use Rattle.reflect_format.specs.Filled.{AreGiven, AreValues, Assigns, Expands, Fills, FillsBody, FillsField, HasRival, PutsIntoAny, IsAlone, IsGiven, IsValue, Makes, url_of};
 ghost use Rattle.reflect_format.specs.Reads.{IsCause, ReadsTree, Refutes, StaysUnless, Stops, There};
 ghost use Rattle.reflect_format.specs.Refusals.{RefusesSecond};
@@ -10,7 +10,7 @@ ghost use Rattle.reflect_format.specs.Takes.{BelongsTo};
 ghost use Rattle.reflect_format.specs.Told.{AssignmentFault, BodyFault, ClosesAt, ExpansionFault, FieldFault, GivenFault, ListFault, MessageBytes, MessageFault, NamedFault, SecondFault, TextFault, Told, ValueBytes, ValueFault};
 ghost use Rattle.reflect_format.specs.Truth.{TrueFor, TrueOf};
 ghost use Rattle.reflect_format.specs.Unfit.{AreUnfitGiven, AreUnfitValues, CannotMake, IsUnfitBody, IsUnfitField, IsUnfitGiven, IsUnfitValue, Rejects, RejectsExpansion, Unfit};
-ghost use Rattle.std.specs.Prelude.{◌≡◌, ◌<◌, ◌⊎◌, Bool, IfErr, IfOk, OnOk, Some, false, string_bytes, true};
+ghost use Rattle.std.specs.Prelude.{◌≡◌, ◌<◌, ◌⊎◌, [], Bool, IfErr, IfOk, OnOk, Some, false, string_bytes, true};
 ghost use Rattle.text_error.specs.Places.{place_of};
 ghost use Rattle.text_error.specs.declared.error.ParseErrorKind.TheVariants as kinds;
 ghost use Rattle.text_lex.specs.Longest.{Lexes};
@@ -56,12 +56,13 @@ impl<'a> Parser<'a> {
     ///
     /// The first fault ends it; the message then has the fields at the top that were read before
     /// the fault, and for want of memory perhaps a part of the map or the `google.protobuf.Any`
-    /// that was to be set.
+    /// that was to be set. Where it ends well, no token is left.
     pub fn parse_message(&mut self, message: &mut DynamicMessage<'_>) -> Result<(), ParseError>
         ensures type_stays { message.new.descriptor ≡ message.old.descriptor }
         ensures filled { OnOk result
             ((fs : Fields) × (text_at (remaining self.old.tokens) ≡ Some fs)
             × Fills fs message.old message.new) }
+        ensures spent { OnOk result (remaining self.new.tokens ≡ []) }
         ensures refused { IfErr result (λ e. TrueOf message.old.descriptor.pool.now e.kind) }
         ensures cause { IfErr result (λ e. IsCause
             ((fs : Fields) → text_at (remaining self.old.tokens) ≡ Some fs → Unfit fs message.old)
@@ -86,6 +87,7 @@ fn fields_to_end(
     ensures filled { OnOk result
         (ReadsTree (fields_at at_end (message_at 100) (remaining tokens.old))
         (λ fs. Fills fs message.old message.new) (remaining tokens.new)) }
+    ensures spent { OnOk result (remaining tokens.new ≡ []) }
     ensures refused { IfErr result (TrueOf message.old.descriptor.pool.now) }
     ensures cause { IfErr result
         (Refutes (fields_at at_end (message_at 100) (remaining tokens.old))
@@ -189,7 +191,7 @@ fn assignment<'p>(
         (λ given. Rejects target.entry (IsUnfitGiven given) (AreUnfitGiven given) message.old)) }
     ensures stays { (colon : Bool) → IfErr result (λ kind. StaysUnless
         (There (given_at (message_at braces) colon (remaining tokens.old))
-        (λ given. AddsSome target.entry (AreGiven given) message.old message.new))
+        (λ given. BeginsTarget target.entry (AreGiven given) message.old message.new))
         kind message.old message.new) }
     ensures told { IfErr result (Told (AssignmentFault braces (MessageFault braces) target.entry
         message.old (remaining tokens.old))) }
@@ -308,7 +310,7 @@ fn expansion(
         (λ given. RejectsExpansion (string_bytes name.message) (IsUnfitBody given) message.old)) }
     ensures stays { (colon : Bool) → IfErr result (λ kind. StaysUnless
         (There (given_at (message_at braces) colon (remaining tokens.old))
-        (λ given. HoldsUrl (url_of (string_bytes name.domain) (string_bytes name.message))
+        (λ given. BeginsAny (url_of (string_bytes name.domain) (string_bytes name.message))
         message.old message.new)) kind message.old message.new) }
     ensures told { IfErr result (Told (ExpansionFault braces (MessageFault braces)
         (string_bytes name.message) span message.old (remaining tokens.old))) }
@@ -339,7 +341,7 @@ fn hold(
     ensures refused { IfErr result (TrueOf message.old.descriptor.pool.now) }
     ensures cause { IfErr result (IsCause (IsAny message.old.descriptor → ⊥)) }
     ensures stays { IfErr result (λ kind. StaysUnless
-        (HoldsUrl (url_of (string_bytes name.now.domain) (string_bytes name.now.message))
+        (BeginsAny (url_of (string_bytes name.now.domain) (string_bytes name.now.message))
         message.old message.new) kind message.old message.new) }
     ensures told { IfErr result (Told (λ kind. (IsAny message.old.descriptor → ⊥)
         × (kind ≡ kinds.InvalidTypeForAny span))) }

@@ -149,7 +149,7 @@ impl<'p> Target<'p> {
         requires { BelongsTo message.old.descriptor self.now }
         ensures type_stays { message.new.descriptor ≡ message.old.descriptor }
         ensures ok { OnOk result (Puts self.now value.entry message.old message.new) }
-        ensures exclusive { OnOk result (StaysExclusive self.now message.old message.new) }
+        ensures exclusive { StaysExclusive self.now message.old message.new }
         ensures ascending { OnOk result (StaysAscending message.old message.new) }
         ensures left { OnErr result (Stays message.old message.new) }
     {

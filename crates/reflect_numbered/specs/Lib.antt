@@ -2,3 +2,4 @@ pub mod Called
 pub mod Fits
 pub mod Lent
 pub mod Refused
+pub mod Texts

@@ -1,6 +1,6 @@
 //! Fields set to values that need not suit them.
 
-ghost use Rattle.std.specs.Prelude.{◌≡◌, IfErr, OnErr, OnOk};
+ghost use Rattle.std.specs.Prelude.{◌≡◌, IfErr, OnErr, OnOk, Some};
 ghost use Rattle.reflect_pool.specs.FieldsLeft.{field_type};
 ghost use Rattle.reflect_scalar.specs.FieldTypes.{field_pool};
 ghost use Rattle.reflect_entries.specs.Entries.{IsAscending};
@@ -10,6 +10,7 @@ ghost use Rattle.reflect_message.specs.Oneofs.{IsExclusive, SetsField};
 ghost use Rattle.reflect_numbered.specs.Called.{StaysWhole};
 ghost use Rattle.reflect_numbered.specs.Fits.{IsValidFor};
 ghost use Rattle.reflect_numbered.specs.Refused.{HandsBack};
+ghost use Rattle.reflect_numbered.specs.Texts.{named};
 
 use crate::validity::is_valid_for;
 use reflect_message::{DynamicMessage, Value};
@@ -35,6 +36,8 @@ pub enum SetFieldError<'p> {
 }
 
 impl<'p> fmt::Debug for SetFieldError<'p> {
+    ghost debug_output = { λ e. Some (named e) };
+
     fn fmt<W: fmt::Write>(&self, f: &mut fmt::Formatter<W>) -> fmt::Result {
         match self {
             SetFieldError::NotFound => f.write_str("NotFound"),

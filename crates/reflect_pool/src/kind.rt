@@ -4,7 +4,9 @@ use crate::enums::EnumDescriptor;
 use crate::message::MessageDescriptor;
 
 /// What a field holds.
-#[derive(Clone, Copy)]
+///
+/// Two are equal where they are the same kind, with equal message or enum types.
+#[derive(Clone, Copy, PartialEq, Eq)]
 pub enum Kind<'p> {
     Double,
     Float,

@@ -216,7 +216,7 @@ fn expansion<W: fmt::Write>(
     lines.padding()?;
     let inner = Place {
         expansions: at.expansions.saturating_sub(1),
-        ..at
+        ..at.read()
     };
     braced_message(lines, &held.body, inner)
 }

@@ -94,6 +94,8 @@ impl fmt::Display for SchemaError {
 }
 
 impl fmt::Debug for SchemaError {
+    ghost debug_output = { λ e. Some (said e) };
+
     fn fmt<W: fmt::Write>(&self, f: &mut fmt::Formatter<W>) -> fmt::Result {
         write!(f, "{self}")
     }

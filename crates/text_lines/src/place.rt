@@ -1,4 +1,4 @@
-ghost use Rattle.std.specs.Prelude.{◌≡◌, ◌+◌, ◌<◌, IfErr, IfOk};
+ghost use Rattle.std.specs.Prelude.{◌≡◌, ◌+◌, ◌<◌, ◌≤◌, IfErr, IfOk};
 ghost use Rattle.text_lines.specs.declared.error.WriteError.TheVariants.{Memory};
 
 use crate::error::WriteError;
@@ -9,12 +9,17 @@ const MAX_PAYLOADS: u32 = 100;
 /// How many expanded messages may be printed in one another.
 const MAX_EXPANSIONS: u32 = 100;
 
+/// How many values may nest in what is read of bytes: in an expanded message, or in a payload that is
+/// printed as records. Each takes stack, and how deep they nest is for who made the bytes to say.
+const MAX_LEVELS_READ: usize = 1_000;
+
 /// Where in the text something is printed.
 #[derive(Clone, Copy)]
 pub struct Place {
     /// How many spaces a line begins with in the pretty form.
     pub indent: usize,
-    /// How many more values may nest. Each takes memory, so no value runs out of them.
+    /// How many more values may nest. Each takes memory, so no value that a caller made runs out of
+    /// them.
     pub levels: usize,
     /// How many more payloads may be printed as records.
     pub payloads: u32,
@@ -39,6 +44,20 @@ impl Place {
         match self.levels.checked_sub(1) {
             Some(levels) => Ok(Place { levels, ..self }),
             None => Err(WriteError::Memory),
+        }
+    }
+
+    /// The same place in what is read of bytes, which may nest less deep.
+    pub fn read(self) -> Place
+        ensures levels { result.levels ≤ self.levels }
+        ensures place { result ≡ record self { levels = result.levels } }
+    {
+        if self.levels <= MAX_LEVELS_READ {
+            return self;
+        }
+        Place {
+            levels: MAX_LEVELS_READ,
+            ..self
         }
     }
 

@@ -107,7 +107,13 @@ impl<W: fmt::Write> Lines<W> {
     {
         if let Some(payloads) = at.payloads.checked_sub(1) {
             if let Some(records) = inferred(self.alloc, payload)? {
-                return self.group(&records, Place { payloads, ..at });
+                return self.group(
+                    &records,
+                    Place {
+                        payloads,
+                        ..at.read()
+                    },
+                );
             }
         }
         self.bytes(payload)

@@ -224,7 +224,7 @@ shape_at old next same e l name g names q at = subst (λ (p : PoolType). IsSound
     (λ sound known shape. name_shape old next same sound e l g known shape name names)
 
 -- the type of a message stays
-fills_type : (fs : Fields) (old new : DynamicMessage) → Fills fs old new → new.descriptor ≡ old.descriptor
+pub fills_type : (fs : Fields) (old new : DynamicMessage) → Fills fs old new → new.descriptor ≡ old.descriptor
 fills_type no_fields old new e = ap (λ (m : DynamicMessage). m.descriptor) e
 fills_type (more_fields name g s fs) old new h = fills_type fs h.0 new h.3 ∙ h.1
 

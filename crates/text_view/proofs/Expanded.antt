@@ -13,7 +13,7 @@ use Rattle.reflect_pool.specs.declared.message.MessageDescriptor.{MessageDescrip
 use Rattle.reflect_scalar.specs.FieldTypes.{field_pool}
 use Rattle.reflect_scalar.specs.Floats.{IsFloat, HasFloats, HoldsFloats}
 use Rattle.reflect_any.specs.Any.{IsAny, IsLone}
-use Rattle.reflect_message.specs.Declares.{Owns}
+use Rattle.reflect_message.specs.Declares.{Declares, Owns}
 use Rattle.reflect_message.specs.KindTypes.{IsMessageType}
 use Rattle.reflect_message.specs.Known.{numbered_field}
 use Rattle.reflect_message.specs.Oneofs.{IsExclusive}
@@ -41,6 +41,38 @@ use Rattle.text_view.proofs.Set.{held_one}
 abbrev pub IsWhole : KindType → Type 0
 IsWhole t = (IsFloat t → ⊥) × ((p : PoolType) → HasFloats p t → ⊥)
 
+pub string_whole : IsWhole types.string
+string_whole = ((λ h. h), λ p h. h)
+
+pub bytes_whole : IsWhole types.bytes
+bytes_whole = ((λ h. h), λ p h. h)
+
+-- the field of a type that has the number, which one of the kind alone has
+module _ (d : MessageDescriptor) (apart : AreApart d.pool.now) (n : ℕ) (kind : KindType) (f : FieldDescriptor) (has : Declares d f) (is : (field_type f).number ≡ n)
+    (lone : IsLone d.pool.now d.index kind (numbered_field d.pool.now d.index n)) where
+  place : type_of_field d.pool.now d.index f.index ≡ field_type f
+  place = ap (λ j. type_of_field d.pool.now j f.index) (sym has.0) ∙ ap (λ p. type_of_field p f.message.index f.index) (sym has.1)
+
+  in_fields : f.index < length (type_at d.pool.now d.index).fields
+  in_fields = subst (λ (p : PoolType). f.index < length (type_at p d.index).fields) has.1 (subst (λ j. f.index < length (type_at f.message.pool.now j).fields) has.0 f.in_range)
+
+  first : IsFirst (λ (g : FieldType). g.number ≡ (field_type f).number) (type_at d.pool.now d.index).fields (Some f.index)
+  first =
+      subst (λ (t : FieldType). IsFirst (λ (g : FieldType). g.number ≡ t.number) (type_at d.pool.now d.index).fields (Some f.index)) place
+      (field_first d apart (record { message = d; index = f.index; in_range = in_fields }) refl in_fields)
+
+  found : numbered_field d.pool.now d.index n ≡ Some (field_type f)
+  found = ap (numbered_field d.pool.now d.index) (sym is) ∙ field_found d.pool.now d.index (field_type f).number f.index first ∙ ap Some place
+
+  pub lone_type : IsLone d.pool.now d.index kind (Some (field_type f))
+  lone_type = subst (IsLone d.pool.now d.index kind) found lone
+
+  pub lone_owns : IsWhole kind → Owns d f
+  lone_owns whole = (has, first, none) where
+    none : HoldsFloats (field_pool f) (field_type f) → ⊥
+    none (inl h) = whole.0 (subst IsFloat lone_type.0 h)
+    none (inr h) = whole.1 (field_pool f) (subst (HasFloats (field_pool f)) lone_type.0 h.1)
+
 module _ (old new : DynamicMessage) (apart : AreApart old.descriptor.pool.now) (n : ℕ) (x : Single) (kind : KindType) (whole : IsWhole kind)
     (sets : SetsNumber n x old new) (lone : IsLone old.descriptor.pool.now old.descriptor.index kind (numbered_field old.descriptor.pool.now old.descriptor.index n)) where
   abbrev d : MessageDescriptor
@@ -52,28 +84,11 @@ module _ (old new : DynamicMessage) (apart : AreApart old.descriptor.pool.now) (
   abbrev f : FieldDescriptor
   f = sets.0
 
-  place : type_of_field pool d.index f.index ≡ field_type f
-  place = ap (λ j. type_of_field pool j f.index) (sym sets.2.0) ∙ ap (λ p. type_of_field p f.message.index f.index) (sym sets.2.1)
-
-  in_fields : f.index < length (type_at pool d.index).fields
-  in_fields = subst (λ (p : PoolType). f.index < length (type_at p d.index).fields) sets.2.1 (subst (λ j. f.index < length (type_at f.message.pool.now j).fields) sets.2.0 f.in_range)
-
-  first : IsFirst (λ (g : FieldType). g.number ≡ (field_type f).number) (type_at pool d.index).fields (Some f.index)
-  first =
-      subst (λ (t : FieldType). IsFirst (λ (g : FieldType). g.number ≡ t.number) (type_at pool d.index).fields (Some f.index)) place
-      (field_first d apart (record { message = d; index = f.index; in_range = in_fields }) refl in_fields)
-
-  found : numbered_field pool d.index n ≡ Some (field_type f)
-  found = ap (numbered_field pool d.index) (sym sets.3) ∙ field_found pool d.index (field_type f).number f.index first ∙ ap Some place
-
   pub its_lone : IsLone pool d.index kind (Some (field_type f))
-  its_lone = subst (IsLone pool d.index kind) found lone
+  its_lone = lone_type d apart n kind f sets.2 sets.3 lone
 
   pub number_owns : Owns d f
-  number_owns = (sets.2, first, none) where
-    none : HoldsFloats (field_pool f) (field_type f) → ⊥
-    none (inl h) = whole.0 (subst IsFloat its_lone.0 h)
-    none (inr h) = whole.1 (field_pool f) (subst (HasFloats (field_pool f)) its_lone.0 h.1)
+  number_owns = lone_owns d apart n kind f sets.2 sets.3 lone whole
 
   -- the number's field gets the value
   number_set : IsExclusive old → new.descriptor ≡ old.descriptor → view new ≡ assign (field_at pool d.index) n (settle (target_field d (targets.Field f)).part x) (view old)
@@ -102,12 +117,6 @@ any_held old between new apart exclusive stays typed same any url bytes first se
 
   its_apart : AreApart between.descriptor.pool.now
   its_apart = subst (λ (c : MessageDescriptor). AreApart c.pool.now) (sym typed) apart
-
-  string_whole : IsWhole types.string
-  string_whole = ((λ h. h), λ p h. h)
-
-  bytes_whole : IsWhole types.bytes
-  bytes_whole = ((λ h. h), λ p h. h)
 
   one : Field
   one = target_field old.descriptor (targets.Field first.0)

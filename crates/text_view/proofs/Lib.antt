@@ -33,3 +33,4 @@ pub mod Numbered
 pub mod EntryTypes
 pub mod HaveNames
 pub mod SoundTypes
+pub mod Stopped

@@ -22,6 +22,7 @@ ghost use Rattle.reflect_numbered.specs.Called.{HasName, OwnsMeant};
 ghost use Rattle.reflect_format.specs.Filled.{Fills, HasRival, IsScalar, Makes, PutsOne};
 ghost use Rattle.reflect_format.specs.Kinds.{scalar_given};
 ghost use Rattle.reflect_format.specs.Named.{NamesExtension, NamesField, NoExtensionNamed, NoFieldNamed};
+ghost use Rattle.reflect_format.specs.Reads.{Stops};
 ghost use Rattle.reflect_format.specs.Steps.{held_by, is_set, AddsValues, Puts, SetsNumber};
 ghost use Rattle.reflect_format.specs.Takes.{holds_many, target_pool, target_type};
 ghost use Rattle.reflect_format.specs.Unfit.{CannotMake, Unfit};
@@ -33,6 +34,8 @@ ghost use Rattle.message_view.specs.Shaped.{HasShape};
 ghost use Rattle.message_view.specs.Sound.{HaveNames, AreApart, IsSound};
 ghost use Rattle.message_view.specs.Types.{field_at, kind_in, name_at, types_of};
 ghost use Rattle.message_view.specs.Views.{content_view, view};
+ghost use Rattle.text_error.specs.declared.error.ParseErrorKind.{ParseErrorKind};
+ghost use Rattle.text_lex.specs.Token.{Lexeme};
 ghost use Rattle.text_model.specs.Schemas.{shape_of, Schema};
 ghost use Rattle.text_model.specs.Texts.{Gives, IsText};
 ghost use Rattle.text_model.specs.Tokens.{open_braces};
@@ -304,6 +307,13 @@ pub fn filled_messages_stay_so()
     ensures { (old new : DynamicMessage) → IsSound old.descriptor.pool.now → IsExclusive old
         → HoldsKinds old → (fs : Fields) → Fills fs old new
         → IsExclusive new × HoldsKinds new }
+{}
+
+/// And a message of which a text was refused is exclusive still, whatever it was refused for.
+pub fn refused_messages_stay_exclusive()
+    ensures { (old new : DynamicMessage) → IsSound old.descriptor.pool.now → IsExclusive old
+        → HoldsKinds old → (ls : List Lexeme) (kind : ParseErrorKind) → Stops ls kind old new
+        → IsExclusive new }
 {}
 
 /// A message in shape that a text fills is in shape, of as many levels as braces are open in the

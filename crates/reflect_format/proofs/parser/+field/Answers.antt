@@ -16,7 +16,7 @@ use Rattle.text_syntax.specs.Syntax.{OneField, Read, alone, at_sign, brace_of, e
 use Rattle.text_syntax.proofs.Continuing.{all_read, begin_on, behind_begun, behind_values, fields_stop, first_of, first_value, joined, listed_on, listed_twice, none_listed, one, values_next, values_over, values_stop}
 use Rattle.text_syntax.proofs.Parts.{end_comma, end_semicolon, field_parts, field_read, given_alone, given_listed, list_closed, list_opened, message_fields, message_made, message_read, name_found, no_brace, none_open, sign_ends, sign_misses, taken_sign, untaken_sign}
 use Rattle.text_syntax.proofs.Unfolding.{fields_is, message_shorter, more_is, unnamed}
-use Rattle.reflect_format.specs.Begun.{Begins, HoldsUrl}
+use Rattle.reflect_format.specs.Begun.{Begins, BeginsAny}
 use Rattle.reflect_format.specs.Filled.{AreGiven, AreValues, Expands, FillsBody, FillsField, url_of}
 use Rattle.reflect_format.specs.Named.{NamesExtension, NamesField, NoExtensionNamed, NoFieldNamed}
 use Rattle.reflect_format.specs.Reads.{StaysUnless, There}
@@ -28,7 +28,7 @@ use Rattle.reflect_format.proofs.Faults.{body_told, both_told, brace_told, depth
 use Rattle.reflect_format.proofs.Filling.{alone_are, alone_is, cause, cause_of, colon_told, expansion_only, extension_only, fills_on, given_message, name_told, passes, plain_only, unfit_all, unfit_body, unfit_listed, unfit_message, unfit_on, unfit_one, unfit_values_on, unread, values_on}
 use Rattle.reflect_format.proofs.Single.{scalar_reads, scalar_refutes}
 use Rattle.reflect_format.proofs.Telling.{field_true, extension_true, scalar_true, second_true, passed}
-use Rattle.reflect_format.proofs.Stepping.{begun_so, untouched, kept, unfinished}
+use Rattle.reflect_format.proofs.Stepping.{begun_so, untouched, unfinished}
 use Rattle.reflect_format.proofs.parser.+field.Goals as goal
 use Rattle.reflect_format.proofs.parser.+field.Goals.{field-then-is_none, field-else-is_none}
 
@@ -129,7 +129,7 @@ named_value-returns-in-Any-clause-stays t c = λ n colon same.
       b.1,
       b.2,
       expansion_only (λ n. Begins n b.0 old new) n (string_bytes name.domain) (string_bytes name.message) (same ∙ ap name_view c.in-Any.is)
-          (λ d e is was. subst (λ x. HoldsUrl (url_of x (written e)) old new) (sym is) (subst (λ y. HoldsUrl (url_of (string_bytes name.domain) y) old new) (sym was) b.3)),
+          (λ d e is was. subst (λ x. BeginsAny (url_of x (written e)) old new) (sym is) (subst (λ y. BeginsAny (url_of (string_bytes name.domain) y) old new) (sym was) b.3)),
     )) h)
     (c.expansion.ensures.stays colon)
 
@@ -147,10 +147,15 @@ assignment-returns-in_err-add-clause-stays t c = λ colon.
     let r = c.from_residual-in_err-add in
     let w = c.in_ok-values.ensures.read colon in
     unfinished _ c.args.message.now c.add.new.message r.result r.ensures.1
-    (w.0, remaining c.values.new.tokens, w.1, (c.kind.result, c.kind.ensures, sym c.holds_many.ensures ∙ c.if-holds_many.true, c.in_ok-values.values.items, w.2, c.in_err-add.ensures.left))
+    (w.0, remaining c.values.new.tokens, w.1, inr (c.kind.result, c.kind.ensures, sym c.holds_many.ensures ∙ c.if-holds_many.true, c.in_ok-values.values.items, w.2, c.in_err-add.ensures.left))
 
 pub assignment-returns-in_err-set-clause-stays : goal.assignment-returns-in_err-set-clause-stays
-assignment-returns-in_err-set-clause-stays t c = λ colon. kept _ c.args.message.now c.set.new.message c.from_residual-in_err-set.result c.from_residual-in_err-set.ensures.1 c.in_err-set.ensures.left
+assignment-returns-in_err-set-clause-stays t c = λ colon.
+    let r = c.from_residual-in_err-set in
+    let w = c.in_ok-value.ensures.read in
+    let rest = remaining c.value.new.tokens in
+    unfinished _ c.args.message.now c.set.new.message r.result r.ensures.1
+    (alone colon w.0, rest, given_alone (message_at c.args.braces) colon (remaining c.args.tokens.now) rest w.0 w.1, inl (c.in_err-set.ensures.left, c.set.ensures.exclusive))
 
 pub expansion-returns-in_default-clause-stays : goal.expansion-returns-in_default-clause-stays
 expansion-returns-in_default-clause-stays t c = λ colon. inl refl
@@ -497,7 +502,7 @@ assignment-returns-clause-filled t c = λ colon.
             unset = c.in_ok-refuse_second.ensures.none;
             alone = c.in_ok-refuse_second.ensures.alone;
             put = c.in_ok-set.ensures.ok;
-            exclusive = c.in_ok-set.ensures.exclusive;
+            exclusive = c.set.ensures.exclusive;
             ascending = c.in_ok-set.ensures.ascending;
           },
         ),

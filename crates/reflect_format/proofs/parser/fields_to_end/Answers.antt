@@ -1,4 +1,5 @@
-use Rattle.std.proofs.Common.{◌≡◌, ◌∙◌, inl, rules, refl, subst, true, false}
+use Rattle.std.proofs.Common.{◌≡◌, ◌∙◌, List, [], ◌∷◌, inl, rules, refl, subst, true, false}
+use Rattle.text_lex.specs.Token.{Lexeme}
 use Rattle.text_model.specs.Tree.{append, no_fields}
 use Rattle.text_scalars.specs.Front.{is_over}
 use Rattle.text_scalars.specs.Remaining.{remaining}
@@ -65,3 +66,11 @@ returns-clause-filled c =
     let inv = c.fields.invariant in
     let over : is_over here ≡ true = search rules in
     (inv.1, all_read at_end (message_at 100) (fields_is (message_at 100) (message_shorter 100) at_end) inv.1 (remaining c.args.tokens.now) here here inv.2 (over_ends here over), inv.3)
+
+-- no lexeme is left at the end
+none_left : (ls : List Lexeme) → is_over ls ≡ true → ls ≡ []
+none_left [] h = refl
+none_left (l ∷ ls) h = absurd (cc h)
+
+pub returns-clause-spent : goal.returns-clause-spent
+returns-clause-spent c = none_left (remaining c.fields.tokens) (search rules)

@@ -15,7 +15,7 @@ use Rattle.reflect_wire.specs.Views.{field_view}
 use Rattle.reflect_scalar.specs.FieldTypes.{field_pool}
 use Rattle.print_parts.specs.Entries.{Entry, AreChosen, AreOthers, field, undeclared}
 use Rattle.reflect_print.specs.Named.{kind_given, kind_held}
-use Rattle.reflect_print.specs.MessageTexts.{IsEntryText, IsListText, IsMapText, IsPairText, IsValueText, no_values, more_values, no_pairs, more_pairs, single_text, message_text, record_text}
+use Rattle.reflect_print.specs.MessageTexts.{IsBracedText, IsEntryText, IsListText, IsMapText, IsPairText, IsValueText, no_values, more_values, no_pairs, more_pairs, single_text, message_text, record_text}
 use Rattle.print_parts.specs.Parts.{declared_entry, other_entry}
 use Rattle.reflect_print.specs.Written.{IsExpansion}
 use Rattle.reflect_print.proofs.Answering.{for_as, for_failed}
@@ -89,8 +89,14 @@ expansion-returns-clause-text g t c =
     let at = c.args.at in
     let same = c.in_ok-put_bracketed.ensures.form ∙ c.in_ok-next_item.ensures.form in
     let less : c.saturating_sub.result ≡ at.expansions - 1 = search rules in
+    let body = c.args.held.now.body in
+    let less_left = c.saturating_sub.result in
+    let outside : (f : FormatOptions) (y : List ℕ) → IsBracedText f c.read.result.payloads less_left c.read.result.indent body y → IsBracedText f at.payloads less_left at.indent body y =
+    λ f y is. subst (λ (p : Place). IsBracedText f p.payloads less_left p.indent body y) c.read.ensures.place is in
     one_on _ _ _ _ _
-    (url_named form _ _ _ at.payloads at.expansions c.saturating_sub.result at.indent c.args.in_braces _ c.url.result.now c.args.held.now.body _ _ c.url.ensures refl same (c.in_ok-padding.ensures.form ∙ same) (ap (λ i. i.in_braces) c.new-items.ensures) (ap (λ i. i.any) c.new-items.ensures) less)
+    (λ y is.
+    url_named form _ _ _ at.payloads at.expansions less_left at.indent c.args.in_braces _ c.url.result.now body _ _ c.url.ensures refl same (c.in_ok-padding.ensures.form ∙ same) (ap (λ i. i.in_braces) c.new-items.ensures) (ap (λ i. i.any) c.new-items.ensures) less y
+    (outside _ y is))
     (writes_in_calls_append _ _ _ _ _ _ c.in_ok-next_item.ensures.text (writes_in_calls_append _ _ _ _ _ _ c.in_ok-put_bracketed.ensures.text c.in_ok-padding.ensures.text))
     c.braced_message.ensures.text
 

@@ -1,6 +1,8 @@
-use Rattle.std.proofs.Common.{rules, ◌≡◌, [], sym, ap, ◌∙◌, subst}
-use Rattle.reflect_wire.specs.Views.{field_view, records_view}
-use Rattle.text_lines.specs.UnknownTexts.{Infers}
+use Rattle.std.proofs.Common.{rules, ◌≡◌, suc, [], sym, ap, ◌∙◌, subst}
+use Rattle.reflect_wire.specs.Records.{group}
+use Rattle.reflect_wire.specs.Views.{field_view, records_view, set_view}
+use Rattle.text_lines.specs.UnknownTexts.{Infers, IsPayloadText, IsValueText}
+use Rattle.text_lines.specs.declared.place.Place.{Place}
 use Rattle.text_lines.proofs.Appending.{appends_text, appends_on, one_on, one_as, one_before, one_failed}
 use Rattle.text_lines.proofs.Rows.{none_written, next_written, all_written, group_text, payload_text, record_text, value_text}
 use Rattle.text_lines.proofs.lines.Lines.+unknown.Goals as goal
@@ -49,7 +51,14 @@ group-returns-clause-text g t c =
 
 pub payload-returns-in-Some-2-clause-text : goal.payload-returns-in-Some-2-clause-text
 payload-returns-in-Some-2-clause-text g t c =
-    one_as _ _ _ _ _ _ (payload_text _ _ _ _ _ _ (search rules) (subst (Infers c.args.payload.now) c.in-Some-2.is c.in_ok-records.ensures)) c.group.ensures.text
+    let inside = c.read.ensures.place in
+    let pretty = c.args.self.now.options.pretty in
+    let one_less : c.args.at.payloads ≡ suc c.in-Some.payloads = search rules in
+    one_as _ _ _ _ _ _
+    (λ y i.
+    payload_text pretty c.in-Some.payloads c.args.at.payloads c.args.at.indent _ _ one_less (subst (Infers c.args.payload.now) c.in-Some-2.is c.in_ok-records.ensures) y
+    (subst (λ (p : Place). IsValueText pretty (IsPayloadText c.in-Some.payloads pretty) p.indent (group (set_view c.in-Some-2.records)) y) inside i))
+    c.group.ensures.text
 
 pub unknown_field-returns-clause-text : goal.unknown_field-returns-clause-text
 unknown_field-returns-clause-text g t c =

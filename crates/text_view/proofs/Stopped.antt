@@ -1,0 +1,66 @@
+-- Of each oneof of a message of which a text is refused one member at most still holds anything.
+use Rattle.std.proofs.Common.{◌≡◌, ◌⊎◌, inl, inr, ℕ, List, sym, subst}
+use Rattle.protox_lex.specs.Class.{Text}
+use Rattle.text_lex.specs.Token.{Lexeme}
+use Rattle.text_error.specs.declared.error.ParseErrorKind.{ParseErrorKind}
+use Rattle.text_model.specs.Tree.{FieldName, plain, extension, expansion, Given}
+use Rattle.text_model.specs.Value.{written}
+use Rattle.reflect_tables.specs.Types.{KindType}
+use Rattle.reflect_tables.specs.Types as types
+use Rattle.reflect_any.specs.Any.{IsLone}
+use Rattle.reflect_pool.specs.declared.message.MessageDescriptor.{MessageDescriptor}
+use Rattle.reflect_message.specs.Known.{numbered_field}
+use Rattle.reflect_message.specs.Names.{DynamicMessage}
+use Rattle.reflect_message.specs.Oneofs.{IsExclusive}
+use Rattle.reflect_format.specs.Begun.{Begins, BeginsAny, BeginsTarget}
+use Rattle.reflect_format.specs.Filled.{AreGiven, ListOfKind, url_of}
+use Rattle.reflect_format.specs.Reads.{StaysUnless, Stops}
+use Rattle.reflect_format.specs.Steps.{LeavesNumber}
+use Rattle.reflect_format.specs.declared.target.Target.{Target}
+use Rattle.message_view.specs.Sound.{AreApart, IsSound}
+use Rattle.text_view.specs.Holds.{HoldsKinds}
+use Rattle.text_view.proofs.Bodies.{fills_type}
+use Rattle.text_view.proofs.Expanded.{IsWhole, bytes_whole, lone_owns, string_whole}
+use Rattle.text_view.proofs.Filling.{stays_so}
+use Rattle.text_view.proofs.Owned.{OwnsTarget, named_target}
+use Rattle.text_view.proofs.Steady.{stays}
+
+-- a target is left, or takes a part of what is given
+target_stays : (t : Target) (all : ListOfKind) (old new : DynamicMessage) → OwnsTarget old.descriptor t → BeginsTarget t all old new → IsExclusive old → IsExclusive new
+target_stays t all old new owns (inl left) = stays t old new owns left.1
+target_stays t all old new owns (inr some) = stays t old new owns some.5.3
+
+-- a field of a google.protobuf.Any is left
+number_stays : (old new : DynamicMessage) (n : ℕ) (kind : KindType) → IsWhole kind → AreApart old.descriptor.pool.now → IsLone old.descriptor.pool.now old.descriptor.index kind (numbered_field old.descriptor.pool.now old.descriptor.index n)
+    → LeavesNumber n old new → IsExclusive old → IsExclusive new
+number_stays old new n kind whole apart lone left =
+    left.3.1 (lone_owns old.descriptor apart n kind left.0 left.1 left.2 lone whole)
+
+-- its URL is left, or set, and its bytes are left
+any_stays : (url : Text) (old new : DynamicMessage) → AreApart old.descriptor.pool.now → BeginsAny url old new → IsExclusive old → IsExclusive new
+any_stays url old new apart (any, inl left) exclusive = number_stays old new 1 types.string string_whole apart any.1 left exclusive
+any_stays url old new apart (any, inr (between, typed, first, left)) exclusive =
+    let its_apart = subst (λ (c : MessageDescriptor). AreApart c.pool.now) (sym typed) apart in
+    let lone = subst (λ (c : MessageDescriptor). IsLone c.pool.now c.index types.bytes (numbered_field c.pool.now c.index 2)) (sym typed) any.2 in
+    number_stays between new 2 types.bytes bytes_whole its_apart lone left
+    (first.6 (lone_owns old.descriptor apart 1 types.string first.0 first.2 first.3 any.1 string_whole) exclusive)
+
+-- what stands under a name is begun
+begun_stays : (name : FieldName) (g : Given) (old new : DynamicMessage) → AreApart old.descriptor.pool.now → Begins name g old new → IsExclusive old → IsExclusive new
+begun_stays (plain w) g old new apart (t, named, begun) =
+    target_stays t (AreGiven g) old new (named_target old.descriptor apart w t (inl named)) begun
+begun_stays (extension n) g old new apart (t, named, begun) =
+    target_stays t (AreGiven g) old new (named_target old.descriptor apart (written n) t (inr named)) begun
+begun_stays (expansion domain n) g old new apart begun =
+    any_stays (url_of (written domain) (written n)) old new apart begun
+
+-- the message is as it was, or P holds
+either : (P : Type 0) (kind : ParseErrorKind) (old new : DynamicMessage) → (P → IsExclusive new) → IsExclusive old → StaysUnless P kind old new → IsExclusive new
+either P kind old new f exclusive (inl same) = subst IsExclusive (sym same) exclusive
+either P kind old new f exclusive (inr w) = f w.1
+
+pub stopped_stays : (old new : DynamicMessage) → IsSound old.descriptor.pool.now → IsExclusive old → HoldsKinds old → (ls : List Lexeme) (kind : ParseErrorKind) → Stops ls kind old new → IsExclusive new
+stopped_stays old new sound exclusive kinds ls kind (done, rest, reached, begins, fills, refused) =
+    let its_apart = subst (λ (c : MessageDescriptor). AreApart c.pool.now) (sym (fills_type done old reached fills)) sound.apart in
+    let before = (stays_so old reached sound exclusive kinds done fills).0 in
+    either _ kind reached new (λ w. begun_stays w.0.name w.0.given reached new its_apart w.3 before) before refused.stays
