@@ -23,7 +23,7 @@ fn form(case: &Value) -> FormatOptions {
         .print_message_fields_in_index_order(truth(form, "print_message_fields_in_index_order"))
 }
 
-/// The text of a message in the form that the case names.
+/// The text of a message in the form that the case names, or that it is refused for want of memory.
 pub fn tell_printed(
     alloc: Global,
     pool: &DescriptorPool,
@@ -39,7 +39,7 @@ pub fn tell_printed(
     };
     match message.to_text_format_with_options(alloc, &form(case)) {
         Ok(printed) => told.tell("ok", printed.as_str()),
-        Err(_) => told.give_up(),
+        Err(_) => told.tell("refused", "memory"),
     }
 }
 
