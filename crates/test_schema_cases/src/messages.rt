@@ -1,6 +1,6 @@
 //! Messages of a schema's types: bytes and text, in and out.
 
-use crate::refusals::tell_refusal;
+use crate::refusals::taken;
 use schema_core::{Schema, SchemaError};
 use serde_json::Value;
 use std::alloc::Global;
@@ -10,17 +10,15 @@ use test_messages::tell_printed;
 
 /// Tells bytes, or why there are none.
 fn tell_bytes(alloc: Global, told: &mut Told<'_>, came: Result<Vec<u8>, SchemaError>) {
-    match came {
-        Ok(bytes) => told.tell_bytes("ok", bytes.as_slice()),
-        Err(error) => tell_refusal(alloc, told, &error),
+    if let Some(bytes) = taken(alloc, told, came) {
+        told.tell_bytes("ok", bytes.as_slice());
     }
 }
 
 /// Tells a text, or why there is none.
 fn tell_text(alloc: Global, told: &mut Told<'_>, came: Result<String, SchemaError>) {
-    match came {
-        Ok(text) => told.tell("ok", text.as_str()),
-        Err(error) => tell_refusal(alloc, told, &error),
+    if let Some(text) = taken(alloc, told, came) {
+        told.tell("ok", text.as_str());
     }
 }
 

@@ -21,6 +21,21 @@ fn schema_code(error: &SchemaError) -> &'static str {
     }
 }
 
+/// What a schema gave; none where it refused, which is told.
+pub fn taken<T: Drop>(
+    alloc: Global,
+    told: &mut Told<'_>,
+    came: Result<T, SchemaError>,
+) -> Option<T> {
+    match came {
+        Ok(it) => Some(it),
+        Err(error) => {
+            tell_refusal(alloc, told, &error);
+            None
+        }
+    }
+}
+
 /// A schema refuses: the layer, the place, what is said of it, and the layer's reason.
 pub fn tell_refusal(alloc: Global, told: &mut Told<'_>, error: &SchemaError) {
     told.tell("code", schema_code(error));

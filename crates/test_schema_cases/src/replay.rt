@@ -6,8 +6,8 @@
 //! before. Bytes are hex text.
 
 use crate::messages::tell_asked;
-use crate::refusals::tell_refusal;
-use crate::schemas::{is_set_of, tell_steps};
+use crate::refusals::taken;
+use crate::schemas::{is_set_of, set_of, tell_steps};
 use schema_core::{Schema, SchemaError};
 use serde_json::Value;
 use std::alloc::Global;
@@ -102,9 +102,9 @@ impl Replay {
         let Some(other) = self.schemas.get(&number(case, "schema")) else {
             return;
         };
-        match other.to_descriptor_set() {
-            Ok(set) => self.read_again(set.as_slice(), case, told),
-            Err(_) => told.give_up(),
+        match set_of(other) {
+            Some(set) => self.read_again(set.as_slice(), case, told),
+            None => told.give_up(),
         }
     }
 
@@ -139,15 +139,12 @@ fn put_made(
     made: Result<Schema, SchemaError>,
     told: &mut Told<'_>,
 ) -> bool {
-    match made {
-        Ok(schema) => {
+    match taken(alloc, told, made) {
+        Some(schema) => {
             *place = schema;
             true
         }
-        Err(error) => {
-            tell_refusal(alloc, told, &error);
-            false
-        }
+        None => false,
     }
 }
 

@@ -38,11 +38,16 @@ fn add_all(alloc: Global, schema: &mut Schema, steps: &[Value]) -> bool {
     true
 }
 
+/// The schema's set, if there is memory for it.
+pub fn set_of(schema: &Schema) -> Option<Vec<u8>> {
+    schema.to_descriptor_set().ok()
+}
+
 /// Whether the schema has this set.
 pub fn is_set_of(schema: &Schema, set: &[u8]) -> bool {
-    match schema.to_descriptor_set() {
-        Ok(now) => now.as_slice() == set,
-        Err(_) => false,
+    match set_of(schema) {
+        Some(now) => now.as_slice() == set,
+        None => false,
     }
 }
 
@@ -87,9 +92,9 @@ pub fn tell_steps(
         return;
     };
     if add_all(alloc, schema, others) {
-        match schema.to_descriptor_set() {
-            Ok(before) => tell_last(alloc, schema, last, before.as_slice(), case, told),
-            Err(_) => told.give_up(),
+        match set_of(schema) {
+            Some(before) => tell_last(alloc, schema, last, before.as_slice(), case, told),
+            None => told.give_up(),
         }
     }
 }
@@ -108,8 +113,8 @@ fn tell_linked(alloc: Global, set: &[u8], case: &Value, told: &mut Told<'_>) {
 
 /// Tells the set of a schema that has taken all steps.
 fn tell_set(alloc: Global, schema: &Schema, case: &Value, told: &mut Told<'_>) {
-    match schema.to_descriptor_set() {
-        Ok(set) => tell_linked(alloc, set.as_slice(), case, told),
-        Err(_) => told.give_up(),
+    match set_of(schema) {
+        Some(set) => tell_linked(alloc, set.as_slice(), case, told),
+        None => told.give_up(),
     }
 }
