@@ -61,16 +61,6 @@ pub ascend_numbered : (n : ℕ) (ps : List Payload) → Ascend n n (numbered n p
 ascend_numbered n [] = omega arith
 ascend_numbered n (p ∷ ps) = (omega arith, ascend_numbered n ps)
 
--- those that pass a test
-pub ascend_filter : (test : ℕ × Payload → Bool) (l h m high : ℕ) (rs : List (ℕ × Payload)) → Ascend l h rs → m ≤ high → ((r : ℕ × Payload) → l ≤ r.0 → test r ≡ true → (m ≤ r.0) × (r.0 ≤ high)) → Ascend m high (filter test rs)
-ascend_filter test l h m high [] a le t = le
-ascend_filter test l h m high (r ∷ rs) a le t = by (test r) refl
-    (λ e. let here = t r a.0 e in (here.0, ascend_filter test r.0 h r.0 high rs a.1 here.1 (λ q le e. (le, (t q (omega (arith, le, a.0)) e).1))))
-    (ascend_filter test r.0 h m high rs a.1 le (λ q le e. t q (omega (arith, le, a.0)) e)) where
-      by : (b : Bool) → test r ≡ b → (test r ≡ true → (m ≤ r.0) × Ascend r.0 high (filter test rs)) → Ascend m high (filter test rs) → Ascend m high (cond b (r ∷ filter test rs) (filter test rs))
-      by true e first later = first e
-      by false e first later = later
-
 -- numbers that differ are told apart
 pub apart : (q n : ℕ) → (q ≡ n → ⊥) → (q == n) ≡ false
 apart q n h = by (q == n) refl where

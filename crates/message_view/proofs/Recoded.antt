@@ -1,5 +1,5 @@
 -- What is recoded, in the words of the model.
-use Rattle.std.proofs.Common.{◌≡◌, inl, inr, None, refl, ◌↔◌, ◌<◌, ◌^◌, ℕ, Bool, true, false, List, [], ◌∷◌, map, length, sym, ap, ◌∙◌, subst, Some}
+use Rattle.std.proofs.Common.{◌≡◌, inr, ◌↔◌, ◌<◌, ◌^◌, ℕ, Bool, true, false, List, [], ◌∷◌, map, length, sym, ap, ◌∙◌, subst, Some}
 use Rattle.std.specs.List.{AllByRecursion}
 use Rattle.reflect_tables.specs.Types.{PoolType, no_type}
 use Rattle.reflect_pool.specs.Dots.{without_dot}
@@ -8,23 +8,13 @@ use Rattle.reflect_pool.specs.declared.message.MessageDescriptor.{MessageDescrip
 use Rattle.reflect_wire.specs.Written.{AreBytes}
 use Rattle.reflect_wire.specs.declared.wire_error.WireError.{WireError}
 use Rattle.reflect_wire.specs.declared.wire_error.WireError.TheVariants as errors
-use Rattle.reflect_pool.specs.FieldsLeft.{field_type}
-use Rattle.reflect_pool.specs.declared.extension.ExtensionDescriptor.{ExtensionDescriptor}
-use Rattle.reflect_entries.specs.Entries.{value_at}
-use Rattle.reflect_scalar.specs.FieldTypes.{extension_type}
-use Rattle.reflect_message.specs.Bytes.{content, forms, message_bytes}
+use Rattle.reflect_message.specs.Bytes.{message_bytes}
 use Rattle.reflect_message.specs.Contents as contents
-use Rattle.reflect_message.specs.Declares.{NoField, OwnsExtension}
-use Rattle.reflect_message.specs.Names.{Value, DynamicMessage}
+use Rattle.reflect_message.specs.Names.{DynamicMessage}
 use Rattle.reflect_message.specs.Oneofs.{IsExclusive}
-use Rattle.reflect_decode.specs.Fields.{HoldFields, LeavesExtension}
-use Rattle.reflect_decode.specs.Keeps.{KeepsUndeclared}
-use Rattle.reflect_decode.specs.Spares.{HoldsRead, NoExtension}
 use Rattle.reflect_message.specs.Contents.{content_of}
 use Rattle.reflect_decode.specs.Levels.{TakesAt}
-use Rattle.reflect_decode.specs.Ordered.{IsOrdered}
 use Rattle.reflect_decode.specs.Spelled.{IsSpelled, TellsWhy}
-use Rattle.reflect_decode.proofs.Ordering.{nothing_ordered}
 use Rattle.protobuf_model.specs.Bytes.{bytes_of}
 use Rattle.protobuf_model.specs.Coded.{Mean, IsRecoded, IsRecodedThrough, AreOlderThan}
 use Rattle.protobuf_model.specs.Older.{IsOlder}
@@ -38,7 +28,6 @@ use Rattle.message_view.specs.Types.{name_at, types_of}
 use Rattle.message_view.specs.Views.{view}
 use Rattle.message_view.proofs.Decoded.{decoded_means, decoded_suits, told_refused}
 use Rattle.message_view.proofs.Encoded.{shape_written}
-use Rattle.message_view.proofs.Forms.{bytes_opened}
 use Rattle.message_view.proofs.Defaults.{have_defaults}
 use Rattle.message_view.proofs.Shapes.{AreKept, kept_shaped}
 
@@ -134,29 +123,6 @@ pub recodes_named : (p : PoolType) (name : List ℕ) (d : MessageDescriptor) →
 recodes_named p name d sound there found bytes out b r =
     subst (λ n. IsRecoded (types_of p) n bytes out) (found_named d p name found)
     (subst (λ p. IsRecoded (types_of p) (name_at p d.index) bytes out) there (recodes d (subst IsSound (sym there) sound) bytes out b r))
-
--- a message in which nothing is set is what no bytes spell, and it is written as no bytes
-pub nothing_recoded : (d : MessageDescriptor) (m : DynamicMessage) → m.descriptor ≡ d → content_of m ≡ contents.nothing → Recodes d [] []
-nothing_recoded d m type empty = record {
-  message = m;
-  type = type;
-  decoded = ([], refl, keeps_nothing, none_read (NoField d) (content_of m).fields (ap (λ (c : contents.Content). c.fields) empty), none_read (NoExtension d) (content_of m).extensions (ap (λ (c : contents.Content). c.extensions) empty), fields_left, (extensions_left, λ f owns. none_at (content_of m).extensions (ap (λ (c : contents.Content). c.extensions) empty) (field_type f).number), tt, subst IsOrdered (sym empty) nothing_ordered);
-  encoded = bytes_opened m ∙ ap (λ (c : contents.Content). content m.descriptor.pool.now m.descriptor.index (forms c.fields) (forms c.extensions) c.unknown) empty;
-} where
-  none_at : (es : List (ℕ × Value)) → es ≡ [] → (n : ℕ) → value_at es n ≡ None
-  none_at es e n = ap (λ es. value_at es n) e
-
-  none_read : (nowhere : ℕ → Type 0) (es : List (ℕ × Value)) → es ≡ [] → HoldsRead nowhere es []
-  none_read nowhere es e n spared = none_at es e n
-
-  keeps_nothing : KeepsUndeclared d [] (content_of m).unknown []
-  keeps_nothing = subst (λ rs. KeepsUndeclared d [] rs []) (sym (ap (λ (c : contents.Content). c.unknown) empty)) (record { behind = λ n u. refl; declared = λ n u. refl; others = λ n u. refl })
-
-  fields_left : HoldFields (TakesAt 100) d (content_of m).fields []
-  fields_left f owns = inl ((λ n sibling. refl), none_at (content_of m).fields (ap (λ (c : contents.Content). c.fields) empty) (field_type f).number)
-
-  extensions_left : (x : ExtensionDescriptor) → OwnsExtension d x → LeavesExtension (TakesAt 100) d x None (value_at (content_of m).extensions (extension_type x).number) []
-  extensions_left x owns apart = none_at (content_of m).extensions (ap (λ (c : contents.Content). c.extensions) empty) (extension_type x).number
 
 -- what was encoded of a decoded message is decoded to the same message
 pub encoded_read : (d : MessageDescriptor) → IsSound d.pool.now → (bytes out : List ℕ) → AreBytes bytes → AreBytes out → (r : Recodes d bytes out) → length out < 2 ^ 64 → (n : DynamicMessage) → n.descriptor ≡ d → IsSpelled d out n → view n ≡ view r.message

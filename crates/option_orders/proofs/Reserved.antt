@@ -2,9 +2,9 @@
 use Rattle.std.proofs.Common.{◌≡◌, ◌<◌, ℕ, ◌&&◌, ◌||◌, not, Bool, true, false, List, [], ◌∷◌, length, map, Some, refl, sym, ap, ◌∙◌, subst}
 use Rattle.std.proofs.lemmas.Slice.Eq.{bytes_eq-Decides}
 use Rattle.std.specs.List.{AllByRecursion}
-use Rattle.std.specs.Prelude.{All, MatchBool, codes, string_bytes}
+use Rattle.std.specs.Prelude.{MatchBool, codes, string_bytes}
 use Rattle.std.specs.Str.{bytes_eq}
-use Rattle.descriptor_records.specs.Content.{NameContent, OptionContent, name_view, option_view}
+use Rattle.descriptor_records.specs.Content.{NameContent, OptionContent, option_view}
 use Rattle.descriptor_records.specs.declared.options.UninterpretedOption.{UninterpretedOption}
 use Rattle.message_view.specs.Sound.{IsNotKept, IsSound}
 use Rattle.message_view.specs.Types.{name_at}
@@ -20,17 +20,12 @@ use Rattle.reflect_message.specs.Known.{numbered_field}
 use Rattle.reflect_options.specs.Settled.{is_forbidden, is_reserved}
 use Rattle.reflect_pool.specs.FieldsLeft.{field_type}
 use Rattle.reflect_pool.specs.declared.extension.ExtensionDescriptor.{ExtensionDescriptor}
-use Rattle.reflect_pool.specs.declared.field.FieldDescriptor.{FieldDescriptor}
 use Rattle.reflect_pool.specs.declared.message.MessageDescriptor.{MessageDescriptor}
 use Rattle.reflect_scalar.specs.FieldTypes.{extension_type}
 use Rattle.reflect_tables.specs.Types.{FieldType, PoolType, extension_at, no_extension, no_field, no_type, type_of_field}
 use Rattle.settled_options.proofs.Fields.{first_field, same_field}
-use Rattle.option_orders.specs.NamedNumbers.{NamesNumber, numbers_named}
+use Rattle.option_orders.specs.NamedNumbers.{numbers_named}
 use Rattle.option_orders.proofs.Spared.{Spares}
-
-or_right : (a : Bool) → (a || true) ≡ true
-or_right true = refl
-or_right false = refl
 
 -- the name of the list is one that no source may set
 listed_reserved : (scope : OptionScope) (name : List ℕ) → bytes_eq name (codes "uninterpreted_option") ≡ true → is_reserved scope name ≡ true

@@ -1,5 +1,5 @@
 -- The declared fields that are printed, chosen one after another.
-use Rattle.std.proofs.Common.{◌≡◌, Bool, true, false, List, [], ◌∷◌, ◌++◌, map, cond, Option, None, Some, sym, ap, ◌∙◌, refl, subst, append-nil}
+use Rattle.std.proofs.Common.{◌≡◌, Bool, true, false, List, [], ◌∷◌, ◌++◌, map, cond, Option, Some, sym, ap, ◌∙◌, refl, subst, append-nil}
 use Rattle.std.specs.List.{cons_option, filter, filter_map}
 use Rattle.std.specs.Ordering.{nat_cmp, is_lt}
 use Rattle.std.specs.List.Sorted.{IsSortedByKey, IsStableByKey}
@@ -29,14 +29,6 @@ pub all_chosen : (form : FormatOptions) (m : DynamicMessage) (done : List Entry)
 all_chosen form m done left e f =
     subst (Pairwise (IsFieldOf m) (printed_fields form m)) (append-nil done)
     (f.whole [] (subst (λ ls. Pairwise (IsFieldOf m) (filter (is_printed form m) (filter_map (known_in m) ls)) []) (sym e) refl))
-
--- a field that messages do not hold
-pub one_passed : (form : FormatOptions) (m : DynamicMessage) (done : List Entry) (g : FieldType) (gs left : List FieldType) → left ≡ g ∷ gs → None ≡ known_in m g → IsChosen form m done left → IsChosen form m done gs
-one_passed form m done g gs left l k f =
-    record {
-      whole = λ rest h. f.whole rest (subst (λ ls. Pairwise (IsFieldOf m) (filter (is_printed form m) (filter_map (known_in m) ls)) rest) (sym l)
-          (subst (λ o. Pairwise (IsFieldOf m) (filter (is_printed form m) (cons_option o (filter_map (known_in m) gs))) rest) k h));
-    }
 
 -- one that they hold, which is put if it is printed
 pub one_put : (form : FormatOptions) (m : DynamicMessage) (old new : List Entry) (g x : FieldType) (gs left : List FieldType) → left ≡ g ∷ gs → Some x ≡ known_in m g → PutsField form m x old new → IsChosen form m old left → IsChosen form m new gs

@@ -1,5 +1,5 @@
 -- Entries that are listed one after another.
-use Rattle.std.proofs.Common.{◌≡◌, List, [], ◌∷◌, ◌++◌, map, Option, None, Some, sym, ap, ◌∙◌, refl}
+use Rattle.std.proofs.Common.{◌≡◌, List, [], ◌∷◌, ◌++◌, Option, None, Some, sym, ap, ◌∙◌, refl}
 use Rattle.std.specs.List.{cons_option, filter_map}
 use Rattle.std.proofs.lemmas.List.{append_assoc}
 use Rattle.print_parts.specs.Entries.{option_list}
@@ -20,12 +20,3 @@ module _ {X Y : Type 0} (f : X → Option Y) where
       ∙ ap (λ (ys : List Y). old ++ ys) (sym (listed_first x xs))
       ∙ ap (λ (zs : List X). old ++ filter_map f zs) (sym l)
       ∙ e
-
--- the same, where each of those that are left is listed
-pub more_mapped : {X Y : Type 0} (f : X → Y) (x : X) (xs left : List X) (old new all : List Y) → left ≡ x ∷ xs → new ≡ old ++ f x ∷ []
-    → old ++ map f left ≡ all → new ++ map f xs ≡ all
-more_mapped {X = X} {Y = Y} f x xs left old new all l n e =
-    ap (λ (ys : List Y). ys ++ map f xs) n
-    ∙ append_assoc old (f x ∷ []) (map f xs)
-    ∙ ap (λ (zs : List X). old ++ map f zs) (sym l)
-    ∙ e

@@ -24,14 +24,6 @@ all_four_or_not (inl p) (inl q) (inr never) d = inr (λ h. never h.2)
 all_four_or_not (inl p) (inr never) d e = inr (λ h. never h.1)
 all_four_or_not (inr never) d e f = inr (λ h. never h.0)
 
-pub either_or_not : {P Q : Type 0} → Decided P → Decided Q → Decided (P ⊎ Q)
-either_or_not (inl p) d = inl (inl p)
-either_or_not (inr never) (inl q) = inl (inr q)
-either_or_not {P} {Q} (inr never) (inr none) = inr by where
-  by : P ⊎ Q → ⊥
-  by (inl p) = never p
-  by (inr q) = none q
-
 -- what says the same is decided too
 pub as_or_not : {P Q : Type 0} → (P → Q) → (Q → P) → Decided P → Decided Q
 as_or_not f g (inl p) = inl (f p)

@@ -38,13 +38,6 @@ passes_through new j [] bytes out m defaults older h k = subst (λ b. Mean new j
 passes_through new j (t ∷ ts) bytes out m defaults older h k =
     passes_through new j ts k.0 out m defaults older.1 (passes t.0 new t.1 j bytes k.0 m older.0 defaults h k.1 k.2) k.3
 
--- each older type of a chain can recode what came so far
-pub recodes : (old new : Types) (i j : Name) (bytes : List ℕ) → IsOlder old i new j → IsAccepted new j bytes → (out : List ℕ) × IsRecoded old i bytes out
-recodes old new i j bytes older h =
-    let a = accepted_by_older old new i j bytes older h in
-    let m = meaning 100 old i nothing a.0 in
-    (bytes_of old i m, (m, (a.0, a.1, refl), refl))
-
 pub one_normal_form : (new : Types) (j : Name) → HaveDefaults new → (ts us : List (Types × Name)) → AreOlderThan new j ts → AreOlderThan new j us
     → (a b x y p q : List ℕ) (m n : Message) → Mean new j a m → Mean new j b n → IsRecodedThrough ts a x → IsRecodedThrough us b y → IsRecoded new j x p → IsRecoded new j y q → length p < 2 ^ 64 → length q < 2 ^ 64 → (p ≡ q) ↔ (m ≡ n)
 one_normal_form new j defaults ts us older others a b x y p q m n h k r s u v y' z' =

@@ -1,23 +1,19 @@
 -- What stands in messages, seen as the tree.
 use Rattle.std.proofs.Common.{◌≡◌, ◌++◌, List, [], ◌∷◌, refl, rules, ap}
 use Rattle.std.specs.List.{flat_map}
-use Rattle.std.specs.Option.{option_map}
 use Rattle.protox_check.specs.Faults.{items_faults, item_faults, members_faults, member_faults, added_faults, added_item_faults}
-use Rattle.protox_tree.specs.Nest.{extend, field, oneof, items_of, members_of, added_of}
-use Rattle.protox_tree.specs.NestView.{extend_view, field_view, kind_view, oneof_view, item_view, items_view, member_view, members_view, added_view, added_items_view}
-use Rattle.protox_tree.specs.View.{ident_view, option_list_view, type_name_view}
+use Rattle.protox_tree.specs.Nest.{extend, oneof, items_of, members_of, added_of}
+use Rattle.protox_tree.specs.NestView.{extend_view, oneof_view, item_view, items_view, member_view, members_view, added_view, added_items_view}
+use Rattle.protox_tree.specs.View.{ident_view, type_name_view}
 use Rattle.protox_tree.specs.declared.message.Extend.{Extend}
 use Rattle.protox_tree.specs.declared.message.Extend as extends
 use Rattle.protox_tree.specs.declared.message.ExtendItem.{ExtendItem}
-use Rattle.protox_tree.specs.declared.message.Field.{Field, the_lemmas}
+use Rattle.protox_tree.specs.declared.message.Field.{the_lemmas}
 use Rattle.protox_tree.specs.declared.message.MessageItem.{MessageItem}
 use Rattle.protox_tree.specs.declared.message.Oneof.{Oneof}
 use Rattle.protox_tree.specs.declared.message.Oneof as oneofs
 use Rattle.protox_tree.specs.declared.message.OneofItem.{OneofItem}
 use Rattle.protox_tree.specs.declared.types.Syntax.{Syntax}
-
-pub field_parts : (f : Field) → field_view f ≡ field f.label (kind_view f.kind) (ident_view f.name) f.number (option_map option_list_view f.options) f.span
-field_parts f = search (rules, the_lemmas)
 
 pub oneof_parts : (o : Oneof) → oneof_view o ≡ oneof (ident_view o.name) o.braces (members_of (members_view o.items.items)) o.span
 oneof_parts o = search (rules, oneofs.the_lemmas)

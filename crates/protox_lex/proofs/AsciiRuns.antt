@@ -1,5 +1,5 @@
 -- Runs of bytes below 128.
-use Rattle.std.proofs.Common.{◌≡◌, ℕ, ◌+◌, ◌-◌, ◌≤◌, ◌<◌, true, ap, sym, ◌∙◌, subst, arith, inl, inr, length, drop, get_or}
+use Rattle.std.proofs.Common.{◌≡◌, ℕ, ◌+◌, ◌-◌, ◌≤◌, ◌<◌, true, ap, sym, ◌∙◌, arith, inl, inr, length, drop, get_or}
 use Rattle.std.specs.Str.{IsUtf8}
 use Rattle.std.proofs.lemmas.Bool.{cases_lt}
 use Rattle.std.proofs.lemmas.Bool.Decides.{nat_tests}
@@ -36,6 +36,3 @@ ascii_text z h = IsUtf8-from_ascii z (IsAscii-from_reads z (length z) (omega ari
 
 pub ascii_less : (z : Text) (n m : ℕ) → IsAsciiTo z n → m ≤ n → IsAsciiTo z m
 ascii_less z n m h le = record { each = λ k lt. h.each k (omega arith) }
-
-pub ascii_more : (z : Text) (n : ℕ) → IsAsciiTo z n → get_or z n 0 < 128 → IsAsciiTo z (n + 1)
-ascii_more z n h here = record { each = λ k lt. elim (cases_lt k n) [ inl low ↦ h.each k low | inr le ↦ (let e : n ≡ k = omega arith in subst (λ i. get_or z i 0 < 128) e here) ] }

@@ -1,8 +1,7 @@
 -- The turns of the loops in strings and comments.
-use Rattle.std.proofs.Common.{◌≡◌, ℕ, zero, suc, ◌+◌, ◌-◌, ◌≤◌, ◌<◌, true, false, [], ◌∷◌, ◌++◌, drop, length, ap, ◌∙◌, arith, refl}
-use Rattle.std.specs.Prelude.{slice_index}
+use Rattle.std.proofs.Common.{◌≡◌, ℕ, zero, suc, ◌+◌, ◌-◌, ◌≤◌, ◌<◌, [], ◌∷◌, ◌++◌, drop, length, ap, ◌∙◌, arith, refl}
 use Rattle.protox_lex.specs.Class.{Text}
-use Rattle.protox_lex.specs.Lex.{unit_len, after_unit, contents_from, contents_len, unit_of, bytes_of, unescaped_from, unescaped, is_comment_mark, comment_len}
+use Rattle.protox_lex.specs.Lex.{unit_len, after_unit, contents_from, contents_len, unit_of, bytes_of, unescaped_from, unescaped}
 
 -- what is left of an escape is passed over
 pub contents_pass : (q left : ℕ) (y : Text) → left ≤ length y → contents_from q left y ≡ left + contents_len q (drop left y)
@@ -23,12 +22,6 @@ pub contents_end : (q : ℕ) (y : Text) → unit_len q y ≡ 0 → contents_len 
 unfolding contents_from
 contents_end q [] e = refl
 contents_end q (b ∷ y) e = ap (λ k. after_unit k (λ m. contents_from q m y)) e
-
-pub comment_step : (b : ℕ) (z : Text) → is_comment_mark b (slice_index z 0) ≡ false → comment_len (b ∷ z) ≡ suc (comment_len z)
-comment_step b z e = rw e refl
-
-pub comment_end : (b : ℕ) (z : Text) → is_comment_mark b (slice_index z 0) ≡ true → comment_len (b ∷ z) ≡ 0
-comment_end b z e = rw e refl
 
 pub contents_none : (q : ℕ) (y : Text) → length y ≡ 0 → contents_len q y ≡ 0
 unfolding contents_from

@@ -1,8 +1,7 @@
 -- The lines of a block comment, one by one.
 use Rattle.std.proofs.Common.{◌≡◌, ℕ, ◌+◌, ◌-◌, ◌<◌, ◌≤◌, Bool, true, false, List, [], ◌∷◌, ◌++◌, take, drop, length, get_or, ap, sym, ◌∙◌, refl, append_assoc, drop-cons, add-one, arith}
-use Rattle.std.proofs.lemmas.List.{append-nil, drop-drop}
+use Rattle.std.proofs.lemmas.List.{drop-drop}
 use Rattle.std.proofs.Math.Numerals.{one-add}
-use Rattle.std.proofs.Math.ListN.{drop_of_length-le}
 use Rattle.std.specs.List.{flat_map, onto_first, position_or_len, slice_split}
 use Rattle.protox_lex.specs.Class.{Text}
 use Rattle.protox_locate.specs.Gap.{is_feed, without_margin, without_margins, without_margins_of}
@@ -47,6 +46,3 @@ next_line z made line at end lt to is before =
     ∙ ap (λ x. later line ++ told_behind x) behind in
     ap (λ x. x ++ told_behind (drop end z)) (append_assoc made (10 ∷ []) (without_margin line)) ∙ append_assoc made (later line) (told_behind (drop end z))
     ∙ ap (λ x. made ++ x) (sym here) ∙ before
-
-pub last_line : (z made : Text) (at : ℕ) → length z ≤ at → made ++ told_behind (drop at z) ≡ without_margins z → made ≡ without_margins z
-last_line z made at le before = sym (append-nil made) ∙ ap (λ x. made ++ told_behind x) (sym (drop_of_length-le z le)) ∙ before

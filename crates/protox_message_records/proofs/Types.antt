@@ -14,9 +14,6 @@ types_more s [] us (x ∷ xs) ys a b = absurd a
 types_more s (t ∷ ts) us [] ys a b = absurd a
 types_more s (t ∷ ts) us (x ∷ xs) ys a b = (a.0, types_more s ts us xs ys a.1 b)
 
-pub adds_none : (s : Syntax) (xs : List MessageContent) → AddsTypes s [] xs xs
-adds_none s xs before a = subst (λ ts. AreTypes s ts (messages_of xs)) (sym (append-nil before)) a
-
 pub adds_one : (s : Syntax) (t : Declared) (xs : List MessageContent) (x : MessageContent) → IsType s t x → AddsTypes s (t ∷ []) xs (xs ++ x ∷ [])
 adds_one s t xs x is before a = types_more s before (t ∷ []) xs (x ∷ []) a (is, tt)
 

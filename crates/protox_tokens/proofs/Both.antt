@@ -3,7 +3,7 @@ use Rattle.std.proofs.Common.{◌≡◌, true, List, [], ◌∷◌, ◌++◌, Op
 use Rattle.protox_lex.specs.Token.{Token}
 use Rattle.protox_lex.specs.declared.span.Span.{Span}
 use Rattle.protox_tokens.specs.Stream.{Piece, Stream, Seen, source, look}
-use Rattle.protox_tokens.specs.Parser.{Outcome, Parser, and_then, ◌>>=◌, pure, same, is, value_of, taken, one}
+use Rattle.protox_tokens.specs.Parser.{Outcome, Parser, and_then, ◌>>=◌, same, value_of, taken, one}
 use Rattle.protox_tokens.specs.Refusal.{Expected}
 use Rattle.protox_tokens.specs.Marks.{Mark, FitsToken, FitsMark, SpellsMarks, IsAny}
 use Rattle.protox_tokens.proofs.Local.{good, same_ok, bound}
@@ -35,58 +35,6 @@ Always r = Unit {0}
 
 abbrev pub Free : {A : Type 0} → A → Stream → Type 0
 Free a r = Unit {0}
-
-pub free : {B : Type 0} (M : B → List Mark) (R : B → Type 0) (G : B → Stream → Type 0) (b : B) (ts r : Stream) → SpellsMarks (M b) ts r → R b → G b r → Unit {0}
-free M R G b ts r h w g = tt
-
--- the same condition in other words
-pub both_as : {A : Type 0} {H : Stream → Type 0} {p : Parser A} {marks : A → List Mark} {K R S : A → Type 0} {F : A → Stream → Type 0} → Both H p marks K R F → ((a : A) → R a → S a) → ((a : A) → S a → R a) → Both H p marks K S F
-both_as b to from = record { sound = λ ts r a h e. let x = b.sound ts r a h e in (x.0, (x.1.0, to a x.1.1), x.2); complete = λ ts r a h k s f. b.complete ts r a h k (from a s) f }
-
--- more is known of the input than is needed
-pub both_under : {A : Type 0} (H : Stream → Type 0) {p : Parser A} {marks : A → List Mark} {K R : A → Type 0} {F : A → Stream → Type 0} → Both Always p marks K R F → Both H p marks K R F
-both_under H b = record { sound = λ ts r a h e. b.sound ts r a tt e; complete = b.complete }
-
--- The last step. K says what is known of the parts of the value, by the steps before.
-pub both_pure : {B : Type 0} (H : Stream → Type 0) (v : B) (K : B → Type 0) → K v → ((b : B) → K b → v ≡ b) → Both H (pure v) (λ b. []) K IsAny Free
-both_pure {B = B} H v K holds one = record {
-  sound = λ ts r b h e. let x = same_ok (v, ts) (b, r) e in (ap (λ (y : B × Stream). y.1) x, (subst K (ap (λ (y : B × Stream). y.0) x) holds, tt), tt);
-  complete = λ ts r b h has s f. ap (λ x. Ok (x, ts)) (one b has) ∙ ap (λ s. Ok (b, s)) h;
-}
-
--- the same, where something is asked of the value too
-pub both_whole : {B : Type 0} (H : Stream → Type 0) (v : B) (K R : B → Type 0) → K v → R v → ((b : B) → K b → R b → v ≡ b) → Both H (pure v) (λ b. []) K R Free
-both_whole {B = B} H v K R holds is one = record {
-  sound = λ ts r b h e. let x = same_ok (v, ts) (b, r) e in let value : v ≡ b = ap (λ (y : B × Stream). y.0) x in (ap (λ (y : B × Stream). y.1) x, (subst K value holds, subst R value is), tt);
-  complete = λ ts r b h has s f. ap (λ x. Ok (x, ts)) (one b has s) ∙ ap (λ s. Ok (b, s)) h;
-}
-
--- the same, where what follows is told by the step before
-pub both_end : {B : Type 0} (H : Stream → Type 0) (v : B) (K : B → Type 0) (G : B → Stream → Type 0) → K v → ((b : B) → K b → v ≡ b) → ((r : Stream) → H r → G v r) → Both H (pure v) (λ b. []) K IsAny G
-both_end {B = B} H v K G holds one told = record {
-  sound = λ ts r b h e.
-      let x = same_ok (v, ts) (b, r) e in
-      let value : v ≡ b = ap (λ (y : B × Stream). y.0) x in
-      let rest : ts ≡ r = ap (λ (y : B × Stream). y.1) x in
-      (rest, (subst K value holds, tt), subst (λ b. G b r) value (told r (subst H rest h)));
-  complete = λ ts r b h has s f. ap (λ x. Ok (x, ts)) (one b has) ∙ ap (λ s. Ok (b, s)) h;
-}
-
--- The last part of a value, which is then made.
-pub both_last : {A B : Type 0} (part : B → A) (g : A → B) (K : B → Type 0) (G : B → Stream → Type 0) {H : Stream → Type 0} {p : Parser A} {marks : A → List Mark} {P : A → Type 0} {F : A → Stream → Type 0}
-    → Both H p marks IsAny P F → ((a : A) → (part (g a) ≡ a) × K (g a)) → ((b : B) → K b → g (part b) ≡ b) → ((b : B) (r : Stream) → F (part b) r → G b r) → ((b : B) (r : Stream) → G b r → F (part b) r)
-    → Both H (p >>= (λ a. pure (g a))) (λ b. marks (part b)) K (λ b. P (part b)) G
-both_last {A = A} {B = B} part g K G {H = H} {p = p} {marks = marks} {P = P} {F = F} rule made one to back = record {
-  sound = λ ts r b h e. let x = bound (p ts) (λ a. pure (g a)) (b, r) e in by ts r b x.0.0 x.0.1 (rule.sound ts x.0.1 x.0.0 h x.1) x.2;
-  complete = λ ts r b h k has f. then_ok (λ a. pure (g a)) (rule.complete ts r (part b) h tt has (back b r f)) (ap (λ b. Ok (b, r)) (one b k));
-} where
-  by : (ts r : Stream) (b : B) (a : A) (u : Stream) → SpellsMarks (marks a) ts u × (Unit {0} × P a) × F a u → good (g a, u) ≡ good (b, r) → SpellsMarks (marks (part b)) ts r × (K b × P (part b)) × G b r
-  by ts r b a u x e =
-      let y = same_ok (g a, u) (b, r) e in
-      let value : g a ≡ b = ap (λ (z : B × Stream). z.0) y in
-      let rest : u ≡ r = ap (λ (z : B × Stream). z.1) y in
-      let is : a ≡ part b = sym (made a).0 ∙ ap part value in
-      (subst (λ a. SpellsMarks (marks a) ts r) is (subst (λ u. SpellsMarks (marks a) ts u) rest x.0), (subst K value (made a).1, subst P is x.1.1), to b r (subst (λ a. F a r) is (subst (F a) rest x.2)))
 
 -- A step, whose value is a part of the whole one. What follows it is what the rest begins with.
 module _ {A B : Type 0} (part : B → A) {H : Stream → Type 0} {p : Parser A} {marks : A → List Mark} {P : A → Type 0} {F : A → Stream → Type 0} {q : A → Parser B}

@@ -20,10 +20,6 @@ SameHead [] (y ∷ s) = ⊥
 SameHead (x ∷ r) [] = ⊥
 SameHead (x ∷ r) (y ∷ s) = x ≡ y
 
-same_head : (r : Stream) → SameHead r r
-same_head [] = tt
-same_head (x ∷ r) = refl
-
 same_head-append : (front r s : Stream) → SameHead r s → SameHead (front ++ r) (front ++ s)
 same_head-append [] r s h = h
 same_head-append (x ∷ front) r s h = refl
@@ -282,10 +278,6 @@ Moves-first {p = p} {f = f} m k = record { at = λ ts r b e. let x = bound (p ts
 
 pub Moves-later : {A B : Type 0} {p : Parser A} {f : A → Parser B} → Keeps p → ((a : A) → Moves (f a)) → Moves (p >>= f)
 Moves-later {p = p} {f = f} k m = record { at = λ ts r b e. let x = bound (p ts) f (b, r) e in omega (arith, k.at ts x.0.1 x.0.0 x.1, (m x.0.0).at x.0.1 r b x.2) }
-
-pub Moves-if : {A : Type 0} (b : Bool) {p q : Parser A} → Moves p → Moves q → Moves (if b then p else q)
-Moves-if true l m = l
-Moves-if false l m = m
 
 abbrev pub good : {A : Type 0} → A × Stream → Outcome A
 good x = Ok x

@@ -71,10 +71,6 @@ listed k f (x ∷ xs) = f x ++ each (λ y. any k ∷ f y) xs
 abbrev pub word_mark : Word → Mark
 word_mark w = spot w.span (ident w.text)
 
--- a statement's tokens, from the first to the last
-abbrev pub statement : Span → Token → List Mark → Token → List Mark
-statement p k ms l = token (from p.start) k ∷ (ms ++ token (upto p.end) l ∷ [])
-
 abbrev pub IsSome_of : {A : Type 0} → (A → Type 0) → List A → Type 0
 IsSome_of P [] = ⊥
 IsSome_of P (x ∷ xs) = P x × Each P xs

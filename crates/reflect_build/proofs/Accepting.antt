@@ -1,6 +1,5 @@
 -- What an accepted batch adds, where no pass found a fault.
-use Rattle.std.proofs.Common.{◌≡◌, ◌++◌, List, [], Result, OnOk, map, ap, sym, subst, ◌∙◌}
-use Rattle.std.proofs.lemmas.Result.{on_ok_weaker}
+use Rattle.std.proofs.Common.{◌≡◌, ◌++◌, List, [], map, ap, sym, ◌∙◌}
 use Rattle.descriptor_records.specs.Content.{file_view}
 use Rattle.descriptor_records.specs.declared.file.FileDescriptorProto.{FileDescriptorProto}
 use Rattle.reflect_names.specs.Faults.{batch_places, list_of, place_at}
@@ -16,8 +15,8 @@ use Rattle.reflect_index.specs.Rewriting.{written}
 use Rattle.reflect_index.proofs.Known.{none_right}
 use Rattle.reflect_passes.specs.NumberFaults.{NumberFaults, doubled}
 use Rattle.reflect_passes.specs.declared.linked_types.LinkedTypes.{LinkedTypes}
-use Rattle.reflect_build.specs.Refusals.{Linking, ReferencesMean, AreTypes, IsOf, new_files}
-use Rattle.reflect_build.specs.Accepted.{AddsRecords, AreAdded, FaultlessBatch, Faultless, FaultlessFiles, AddsNames, AddsFiles}
+use Rattle.reflect_build.specs.Refusals.{Linking, ReferencesMean, AreTypes}
+use Rattle.reflect_build.specs.Accepted.{AddsRecords, AreAdded, FaultlessBatch}
 use Rattle.reflect_build.proofs.Pooled.{map-append}
 use Rattle.reflect_build.proofs.Refused.{types_with}
 
@@ -82,12 +81,3 @@ faultless w fs new rs t means types added numbers f at none records = record {
   apart = ap (doubled w.numbers t) (sym at) ∙ none_right (list_of f) (doubled w.numbers t (place_at f)) none;
   records = records;
 }
-
--- files that a pool has not yet are faultless with what it knows
-pub faultless_files : {T E : Type 0} (p : PoolType) (w : Linking) (fs news : List FileDescriptorProto) (new : PoolType) (r : Result T E) → IsOf p w → news ≡ new_files w.indexes fs
-    → OnOk r (Faultless w news new) → OnOk r (FaultlessFiles p fs new)
-faultless_files p w fs news new r of same h = on_ok_weaker r (λ b. (w, of, subst (λ l. Faultless w l new) same b)) h
-
-pub adds_files : {T E : Type 0} (p : PoolType) (w : Linking) (fs news : List FileDescriptorProto) (new : PoolType) (r : Result T E) → IsOf p w → news ≡ new_files w.indexes fs
-    → OnOk r (AddsNames w news new) → OnOk r (AddsFiles p fs new)
-adds_files p w fs news new r of same h = on_ok_weaker r (λ b. (w, of, subst (λ l. AddsNames w l new) same b)) h

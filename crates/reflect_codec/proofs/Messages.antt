@@ -23,9 +23,6 @@ weight = fold-DescriptorProto ℕ weight_step
 abbrev pub weights : List DescriptorProto → ℕ
 weights ms = total (map weight ms)
 
-pub weight-out : (m : DescriptorProto) → weight m ≡ 1 + weights (out-DescriptorProto m).nested_type.items
-weight-out = fold_out-DescriptorProto ℕ weight_step
-
 pub weights-push : (ms : List DescriptorProto) (m : DescriptorProto) → weights (ms ++ m ∷ []) ≡ weights ms + weight m
 weights-push [] m = omega arith
 weights-push (n ∷ ms) m = omega (arith, weights-push ms m)

@@ -34,10 +34,6 @@ pub cause_of : (P Q : Type 0) (k : ParseErrorKind) → (P → Q) → IsCause P k
 cause_of P Q kinds.Memory f h = tt
 cause_of P Q _ f h = f h
 
-pub memory_cause : {T : Type 0} (P : Type 0) (r : Result T ParseErrorKind)
-    → IsErrAnd r (λ e. e ≡ kinds.Memory) → IfErr r (IsCause P)
-memory_cause P r is = let p = err_from_is_err_and r is in rw (p.1, p.2) tt
-
 -- a cause is passed on
 pub caused : {T : Type 0} (P : Type 0) (r : Result T ParseErrorKind) (k : ParseErrorKind)
     → IsErrAnd r (λ e. e ≡ k) → IsCause P k → IfErr r (IsCause P)

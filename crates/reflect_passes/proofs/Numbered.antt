@@ -41,9 +41,6 @@ at_key k x =
 pub with_new : (known : Numbers) (i : ℕ) (x : StoredExtension) → is_some (known (x.extendee, x.field.number)) ≡ false → with_number known i x ≡ (λ k. cond (has_key k x) (Some i) (known k))
 with_new known i x new = rw new refl
 
-pub keeps_same : (mark : ℕ) (known : Numbers) → KeepsNumbers mark known known
-keeps_same mark known = λ k i lt. (λ e. e, λ e. e)
-
 -- a new message and number have a place that is not below
 pub keeps_new : (known now : Numbers) (i : ℕ) (x : StoredExtension) → is_some (known (x.extendee, x.field.number)) ≡ false → now ≡ with_number known i x → KeepsNumbers i known now
 keeps_new known now i x new e = subst (KeepsNumbers i known) (sym e) (λ k j lt. rw new (by k j lt (has_key k x) refl)) where

@@ -1,5 +1,5 @@
 -- Marks, and the list of the files that have one.
-use Rattle.std.proofs.Common.{◌≡◌, ℕ, zero, suc, ◌<◌, ◌≤◌, ◌+◌, List, [], ◌∷◌, ◌++◌, inl, inr, Bool, true, false, not, cond, ◌||◌, eqb, take, length, get_or, refl, ap, sym, subst, ◌∙◌, arith, count_by}
+use Rattle.std.proofs.Common.{◌≡◌, ℕ, suc, ◌<◌, ◌≤◌, ◌+◌, List, [], ◌∷◌, ◌++◌, inl, inr, Bool, true, false, not, cond, ◌||◌, eqb, take, length, get_or, refl, ap, sym, subst, ◌∙◌, arith, count_by}
 use Rattle.std.proofs.Math.ListN.{set, length-set}
 use Rattle.std.proofs.lemmas.List.{get_or-set_same, get_or-set_other, take_more, get_or_past}
 use Rattle.std.proofs.lemmas.Bool.{cases_eq, cases_lt, eq-eqb, eqb-true}
@@ -28,14 +28,6 @@ listed_contains (x ∷ order) g e = by (eqb x g) refl (listed_contains order g) 
   by : (v : Bool) → eqb x g ≡ v → (is_listed order g ≡ true → Contains order g) → (v || is_listed order g) ≡ true → Contains (x ∷ order) g
   by true is rest h = (0, omega arith, eqb-true x g is)
   by false is rest h = Contains-append_right (x ∷ []) order g (rest h)
-
-pub listed_from : (order : List ℕ) (g : ℕ) → Contains order g → is_listed order g ≡ true
-listed_from [] g (k, lt, e) = absurd (omega arith)
-listed_from (x ∷ order) g h = by (eqb x g) refl (listed_from order g) h where
-  by : (v : Bool) → eqb x g ≡ v → (Contains order g → is_listed order g ≡ true) → Contains (x ∷ order) g → (v || is_listed order g) ≡ true
-  by true is rest c = refl
-  by false is rest (zero, lt, e) = let same : eqb x g ≡ true = eq-eqb x g e in absurd (let no : true ≡ false = sym same ∙ is in cc)
-  by false is rest (suc k, lt, e) = rest (k, omega arith, e)
 
 -- one more file with its mark
 pub listed_more : (marks : List Bool) (order : List ℕ) (f : ℕ) → AreListed marks order → AreListed (set marks f true) (order ++ f ∷ [])

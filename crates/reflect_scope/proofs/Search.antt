@@ -3,12 +3,12 @@ use Rattle.std.proofs.Common.{◌≡◌, ℕ, ◌<◌, ◌≤◌, ◌+◌, List,
 use Rattle.std.proofs.lemmas.List.{take_more}
 use Rattle.std.proofs.Math.ListN.{set, length-set}
 use Rattle.std.proofs.lemmas.List.{take-append-le}
-use Rattle.std.proofs.lemmas.List.{get_or-set_same, get_or-set_other, length-append, get_or-map, get_or_past, length-map}
+use Rattle.std.proofs.lemmas.List.{get_or-set_same, get_or-set_other, length-append, get_or_past, length-map}
 use Rattle.std.proofs.lemmas.List.Sums.{sum_by-set}
 use Rattle.std.proofs.lemmas.Bool.{cases_eq, cases_lt}
 use Rattle.std.proofs.Common.{cond, map}
 use Rattle.reflect_scope.specs.declared.seen.Links.{Links}
-use Rattle.reflect_scope.specs.Sees.{imports_at, publics_at}
+use Rattle.reflect_scope.specs.Sees.{publics_at}
 use Rattle.std.specs.List.{Contains}
 use Rattle.std.proofs.lemmas.List.Elements.{Contains-append_left, Contains-append_cases, Contains-push, Contains-push_cases, Contains-get_or}
 use Rattle.reflect_scope.specs.Sees.{IsChain, Reached}
@@ -93,15 +93,6 @@ mark_one seen order f lt free m = record {
   ];
 }
 
-pub imports_is : (files : List Links) (f : ℕ) (d : Links) → f < length files → imports_at files f ≡ (get_or files f d).imports.items
-imports_is files f d lt = get_or-map (λ l. l.imports.items) files f d [] lt
-
-pub publics_is : (files : List Links) (f : ℕ) (d : Links) → f < length files → publics_at files f ≡ (get_or files f d).public.items
-publics_is files f d lt = get_or-map (λ l. l.public.items) files f d [] lt
-
-pub imports_none : (files : List Links) (f : ℕ) → length files ≤ f → imports_at files f ≡ []
-imports_none files f le = get_or_past (map (λ l. l.imports.items) files) f [] (subst (λ n. n ≤ f) (sym (length-map files (λ l. l.imports.items))) le)
-
 pub publics_none : (files : List Links) (f : ℕ) → length files ≤ f → publics_at files f ≡ []
 publics_none files f le = get_or_past (map (λ l. l.public.items) files) f [] (subst (λ n. n ≤ f) (sym (length-map files (λ l. l.public.items))) le)
 
@@ -120,7 +111,3 @@ extends_as P Q a b w e = record { more = e.more; is = e.is; each = λ g h. w g (
 
 pub extends_keeps : (P : ℕ → Type 0) (a b : List ℕ) → Extends P a b → (g : ℕ) → Contains a g → Contains b g
 extends_keeps P a b e g h = subst (λ xs. Contains xs g) (sym e.is) (Contains-append_left a e.more g h)
-
--- there are no more files listed than there are files
-pub order_bound : (seen : List Bool) (order : List ℕ) → IsMarked seen order → length order ≤ length seen
-order_bound seen order m = let e = m.free in omega (arith, e)

@@ -24,9 +24,6 @@ varint_bytes-more (suc n) h =
     let same : varint_within n (suc n / 128) ≡ varint_within (suc n / 128) (suc n / 128) = varint_within-enough n (suc n / 128) (suc n / 128) (omega arith) (omega arith) in
     grind (arith, common_steps, same)
 
-pub keeps_all : (a : List ℕ) → KeepsFront a a
-keeps_all a = grind (arith, common_steps)
-
 pub keeps_more : (a b : List ℕ) → KeepsFront a (a ++ b)
 keeps_more a b = grind (arith, common_steps)
 

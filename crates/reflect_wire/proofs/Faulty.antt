@@ -7,11 +7,7 @@ use Rattle.reflect_wire.specs.declared.wire_key.WireType.{WireType}
 use Rattle.reflect_wire.specs.declared.wire_key.WireType.TheVariants as wires
 use Rattle.reflect_wire.specs.Reads.{Fronts}
 use Rattle.reflect_wire.specs.Varint.{IsVarintWithin}
-use Rattle.reflect_wire.specs.Faults.{VarintFault, KeyFault, DelimitedFault, FixedFault, FormFault, IsTooDeep, ValueFault, GroupFault, TellsTrue}
-
--- numbers
-pub ends_inside : (left : ℕ) (bytes : List ℕ) → bytes ≡ [] → VarintFault (left + 1) bytes Truncated
-ends_inside left bytes e = subst (λ bs. VarintFault (left + 1) bs Truncated) (sym e) (tt, omega arith)
+use Rattle.reflect_wire.specs.Faults.{VarintFault, DelimitedFault, FixedFault, FormFault, IsTooDeep, ValueFault, GroupFault, TellsTrue}
 
 pub one_too_many : (b : ℕ) (bytes rest : List ℕ) → bytes ≡ b ∷ rest → 128 ≤ b → VarintFault 1 bytes BadVarint
 one_too_many b bytes rest e h = inl (b ∷ [], rest, (h, tt), refl, e)
@@ -31,29 +27,6 @@ fault_behind most outer b bytes rest TooDeep next e h fault = fault
 fault_behind most outer b bytes rest BadUtf8 next e h fault = fault
 fault_behind most outer b bytes rest TooLong next e h fault = fault
 fault_behind most outer b bytes rest Memory next e h fault = fault
-
--- a fault of the number is one of the key, or of the length, that it stands for
-pub key_fault : (bytes : List ℕ) (e : WireError) → VarintFault 10 bytes e → KeyFault bytes e
-key_fault bytes Truncated fault = fault
-key_fault bytes BadVarint fault = fault
-key_fault bytes BadKey fault = absurd fault
-key_fault bytes BadWireType fault = fault
-key_fault bytes EndGroupMismatch fault = fault
-key_fault bytes TooDeep fault = fault
-key_fault bytes BadUtf8 fault = fault
-key_fault bytes TooLong fault = fault
-key_fault bytes Memory fault = fault
-
-pub length_fault : (bytes : List ℕ) (e : WireError) → VarintFault 10 bytes e → DelimitedFault bytes e
-length_fault bytes Truncated fault = inl fault
-length_fault bytes BadVarint fault = fault
-length_fault bytes BadKey fault = fault
-length_fault bytes BadWireType fault = fault
-length_fault bytes EndGroupMismatch fault = fault
-length_fault bytes TooDeep fault = fault
-length_fault bytes BadUtf8 fault = fault
-length_fault bytes TooLong fault = fault
-length_fault bytes Memory fault = fault
 
 -- what a refusal tells may be told in other words
 pub tells_as : (F G : List ℕ → WireError → Type 0) (bytes all : List ℕ) (e : WireError) → (F bytes e → G all e) → TellsTrue F bytes e → TellsTrue G all e
@@ -98,14 +71,6 @@ fixed32_fault (suc levels) key bytes e w h = form (λ v. FormFault (λ n bytes e
 pub delimited_fault : (levels : ℕ) (key : WireKey) (bytes : List ℕ) (e : WireError) → key.wire ≡ wires.LengthDelimited → DelimitedFault bytes e → ValueFault levels key bytes e
 delimited_fault zero key bytes e w h = form (λ v. FormFault (λ n bytes e. IsTooDeep e) key.number v bytes e) key.wire wires.LengthDelimited w h
 delimited_fault (suc levels) key bytes e w h = form (λ v. FormFault (λ n bytes e. GroupFault levels n bytes e) key.number v bytes e) key.wire wires.LengthDelimited w h
-
-pub end_fault : (levels : ℕ) (key : WireKey) (bytes : List ℕ) → key.wire ≡ wires.EndGroup → ValueFault levels key bytes EndGroupMismatch
-end_fault zero key bytes w = form (λ v. FormFault (λ n bytes e. IsTooDeep e) key.number v bytes EndGroupMismatch) key.wire wires.EndGroup w tt
-end_fault (suc levels) key bytes w = form (λ v. FormFault (λ n bytes e. GroupFault levels n bytes e) key.number v bytes EndGroupMismatch) key.wire wires.EndGroup w tt
-
-pub deep_fault : (levels : ℕ) (key : WireKey) (bytes : List ℕ) → key.wire ≡ wires.StartGroup → levels ≡ 0 → ValueFault levels key bytes TooDeep
-deep_fault zero key bytes w none = form (λ v. FormFault (λ n bytes e. IsTooDeep e) key.number v bytes TooDeep) key.wire wires.StartGroup w tt
-deep_fault (suc levels) key bytes w none = absurd (omega arith)
 
 pub group_fault : (levels : ℕ) (key : WireKey) (bytes : List ℕ) (e : WireError) → key.wire ≡ wires.StartGroup → (levels ≡ 0 → ⊥) → GroupFault (levels - 1) key.number bytes e → ValueFault levels key bytes e
 group_fault zero key bytes e w some h = absurd (some refl)

@@ -2,14 +2,12 @@
 use Rattle.std.proofs.Common.{◌≡◌, ℕ, List, [], ◌∷◌, ◌++◌, map, refl, sym, ap, ◌∙◌, Vec, Global}
 use Rattle.std.specs.List.{flat_map}
 use Rattle.reflect_wire.specs.Encoding.{field_bytes, records_bytes}
-use Rattle.reflect_wire.specs.Records.{Payload, Records, group, no_records}
-use Rattle.reflect_wire.specs.Views.{records_of, payload_step, field_step, set_step, payload_view, field_view, records_view, set_view, fields_of}
+use Rattle.reflect_wire.specs.Records.{Payload, Records, no_records}
+use Rattle.reflect_wire.specs.Views.{records_of, payload_step, field_step, set_step, field_view, records_view, set_view, fields_of}
 use Rattle.reflect_wire.specs.declared.unknown.UnknownField.{UnknownField}
 use Rattle.reflect_wire.specs.declared.unknown.UnknownFieldSet.{UnknownFieldSet}
-use Rattle.reflect_wire.specs.declared.unknown.UnknownFieldValue.{Group}
-use Rattle.reflect_wire.specs.declared.unknown.UnknownFieldValue.TheOpen.{UnknownFieldValue-F}
-use Rattle.reflect_wire.specs.declared.unknown.UnknownFieldValue.TheFolds.{fold-UnknownField, fold-roll-UnknownFieldSet, fold-roll-UnknownFieldValue, fold_out-UnknownField, fold_out-UnknownFieldSet}
-use Rattle.reflect_wire.specs.declared.unknown.UnknownFieldValue.TheViews.{roll-UnknownFieldSet, roll-UnknownFieldValue}
+use Rattle.reflect_wire.specs.declared.unknown.UnknownFieldValue.TheFolds.{fold-UnknownField, fold-roll-UnknownFieldSet, fold_out-UnknownField, fold_out-UnknownFieldSet}
+use Rattle.reflect_wire.specs.declared.unknown.UnknownFieldValue.TheViews.{roll-UnknownFieldSet}
 use denote.Hole.Carrier.{roll}
 
 field_view-folds : (f : UnknownField) → fold-UnknownField Payload (ℕ × Payload) Records payload_step field_step set_step f ≡ field_view f
@@ -24,10 +22,6 @@ set_view-out s = fold_out-UnknownFieldSet Payload (ℕ × Payload) Records paylo
 
 pub set_view-roll : (v : Vec UnknownField Global) → set_view (roll-UnknownFieldSet (record { fields = v })) ≡ records_view v.items
 set_view-roll v = fold-roll-UnknownFieldSet Payload (ℕ × Payload) Records payload_step field_step set_step (record { fields = v }) ∙ ap records_of (field_views-fold v.items)
-
-pub payload_view-Group : (s : UnknownFieldSet) → payload_view (Group s) ≡ group (set_view s)
-unfolding roll-UnknownFieldValue roll
-payload_view-Group s = fold-roll-UnknownFieldValue Payload (ℕ × Payload) Records payload_step field_step set_step (UnknownFieldValue-F.Group s)
 
 -- records are written one after another
 pub records_bytes_all : (fs : List UnknownField) → records_bytes (records_view fs) ≡ flat_map (λ f. field_bytes (field_view f)) fs

@@ -7,9 +7,6 @@ use Rattle.schema_view.specs.Rules.{is_number}
 abbrev pub is_repeated : FieldContent → Bool
 is_repeated f = is_number (pos 3) f.label
 
-abbrev pub is_required : FieldContent → Bool
-is_required f = is_number (pos 2) f.label
-
 abbrev pub is_group : FieldContent → Bool
 is_group f = is_number (pos 10) f.field_type
 

@@ -1,13 +1,10 @@
 -- One write after another.
 use Rattle.std.proofs.Common.{◌≡◌, ℕ, List, ◌++◌, Result, Ok, Err, IsErrAnd, subst, sym}
-use Rattle.std.proofs.Output.{writes_in_calls_nil, writes_in_calls_append}
+use Rattle.std.proofs.Output.{writes_in_calls_append}
 use Rattle.std.specs.Fmt.{WritesInCalls}
-use Rattle.text_lines.specs.Appends.{Appends, UnlessRefused, Writes, WritesOne, KeepsOutput}
+use Rattle.text_lines.specs.Appends.{Appends, UnlessRefused, Writes, WritesOne}
 use Rattle.text_lines.specs.declared.error.WriteError.{WriteError}
 use Rattle.text_lines.specs.declared.error.WriteError.TheVariants as errors
-
-pub nothing : {W : Type 0} (took : W → List ℕ → W → Type 0) (a : W) → Appends took a a
-nothing took a = record { text = _; written = writes_in_calls_nil took a }
 
 pub appends_text : {W : Type 0} {took : W → List ℕ → W → Type 0} {a b : W} (text : List ℕ) → WritesInCalls took a text b → Appends took a b
 appends_text text w = record { text = text; written = w }
@@ -21,26 +18,6 @@ appends_on {took = took} {a = a} {b = b} {c = c} p q = record { text = _; writte
 pub unless_on : {W : Type 0} {took : W → List ℕ → W → Type 0} {a b : W} (c : W) (e : WriteError) → Appends took a b → UnlessRefused e (Appends took b c) → UnlessRefused e (Appends took a c)
 unless_on c errors.Memory p q = appends_on p q
 unless_on c errors.Format p q = tt
-
--- a last call, after what was written
-pub keeps_on : {W T : Type 0} {took : W → List ℕ → W → Type 0} {a b : W} (c : W) (r : Result T WriteError) → Appends took a b → KeepsOutput took b r c → KeepsOutput took a r c
-keeps_on c (Ok x) p q = appends_on p q
-keeps_on c (Err e) p q = unless_on c e p q
-
-pub keeps_text : {W T : Type 0} (took : W → List ℕ → W → Type 0) (b c : W) (text : List ℕ) (r : Result T WriteError) → Writes took b r text c → KeepsOutput took b r c
-keeps_text took b c text (Ok x) q = appends_text text q
-keeps_text took b c text (Err e) q = q
-
--- a call that failed after what was written, passed on by `?`
-pub keeps_failed : {W T : Type 0} {took : W → List ℕ → W → Type 0} {a b : W} (c : W) (e : WriteError) (r : Result T WriteError) → IsErrAnd r (λ f. f ≡ e) → UnlessRefused e (Appends took b c) → Appends took a b → KeepsOutput took a r c
-keeps_failed c e (Ok x) f q p = elim f [ ]
-keeps_failed {took = took} {a = a} c e (Err x) f q p = subst (λ y. UnlessRefused y (Appends took a c)) (sym f) (unless_on c e p q)
-
--- an error that comes from elsewhere, after what was written
-pub keeps_stopped : {W T : Type 0} {took : W → List ℕ → W → Type 0} {a b : W} (e : WriteError) (r : Result T WriteError) → IsErrAnd r (λ f. f ≡ e) → Appends took a b → KeepsOutput took a r b
-keeps_stopped e (Ok x) f p = elim f [ ]
-keeps_stopped e (Err errors.Memory) f p = p
-keeps_stopped e (Err errors.Format) f p = tt
 
 -- a last call, after a text
 pub writes_on : {W T : Type 0} {took : W → List ℕ → W → Type 0} {a b : W} (c : W) (x y : List ℕ) (r : Result T WriteError) → WritesInCalls took a x b → Writes took b r y c → Writes took a r (x ++ y) c
@@ -97,11 +74,5 @@ pub one_stopped : {W T : Type 0} {took : W → List ℕ → W → Type 0} {a b :
 one_stopped Is e (Ok x) f p = elim f [ ]
 one_stopped Is e (Err errors.Memory) f p = p
 one_stopped Is e (Err errors.Format) f p = tt
-
--- what was written, whichever text it is
-pub one_kept : {W T : Type 0} (took : W → List ℕ → W → Type 0) (Is : List ℕ → Type 0) (b c : W)
-    (r : Result T WriteError) → WritesOne took b r Is c → KeepsOutput took b r c
-one_kept took Is b c (Ok x) q = appends_text q.0 q.2
-one_kept took Is b c (Err e) q = q
 
 pub ruleset joining = (appends_text, appends_on)

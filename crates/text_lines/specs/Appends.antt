@@ -31,9 +31,3 @@ abbrev pub WritesOne : {W T : Type 0} → (W → List ℕ → W → Type 0) → 
     → (List ℕ → Type 0) → W → Type 0
 WritesOne took old (Ok x) Is new = (text : List ℕ) × Is text × WritesInCalls took old text new
 WritesOne took old (Err e) Is new = UnlessRefused e (Appends took old new)
-
--- Unless the output refused, some text was written behind what it had.
-abbrev pub KeepsOutput : {W T : Type 0} → (W → List ℕ → W → Type 0) → W → Result T WriteError → W
-    → Type 0
-KeepsOutput took old (Ok x) new = Appends took old new
-KeepsOutput took old (Err e) new = UnlessRefused e (Appends took old new)

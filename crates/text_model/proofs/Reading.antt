@@ -67,11 +67,6 @@ name_begins (plain w) r = refl
 name_begins (extension n) r = refl
 name_begins (expansion d n) r = refl
 
-name_apart : (n : FieldName) (r : Stream) → (is_at is_string (name_tokens n ++ r) ≡ false) × (is_at (is_sign 44) (name_tokens n ++ r) ≡ false) × (is_at (is_sign 59) (name_tokens n ++ r) ≡ false)
-name_apart (plain w) r = (refl, refl, refl)
-name_apart (extension n) r = (refl, refl, refl)
-name_apart (expansion d n) r = (refl, refl, refl)
-
 strings_back : (ss : List Text) (k : ℕ) (r : Stream) → length ss ≤ k → is_at is_string r ≡ false → strings_front k (map str ss ++ r) ≡ got ss r
 strings_back [] zero r h e = refl
 strings_back [] (suc k) r h e = ap (λ b. cond b (with_text (text_at r) (strings_front k (rest r))) (got [] r)) e

@@ -312,10 +312,6 @@ all_ends : (ls rest : List Lexeme) → at_end ls ≡ Some rest → ls ≡ []
 all_ends [] rest e = refl
 all_ends (l ∷ ls) rest e = absurd (cc e)
 
-fields_of : Fields → Option Fields → Fields
-fields_of fs (Some gs) = gs
-fields_of fs None = fs
-
 -- a text that is read has the tokens of its tree
 pub text_sound : (ls : List Lexeme) (fs : Fields) → text_at ls ≡ Some fs → AreTokens ls (fields_tokens fs) × (open_braces fs ≤ 100)
 unfolding text_at

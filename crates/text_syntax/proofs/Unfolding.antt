@@ -1,10 +1,10 @@
 -- Each reading takes a lexeme at least, so values and fields are read one after the other, with no
 -- word of how many there are at most.
-use Rattle.std.proofs.Common.{◌≡◌, ℕ, zero, suc, ◌+◌, ◌<◌, ◌≤◌, Bool, true, false, ◌||◌, cond, codes, option_map, List, [], ◌∷◌, length, Option, Some, None, Ok, Err, is_some, refl, ap, subst, arith}
+use Rattle.std.proofs.Common.{◌≡◌, ℕ, zero, suc, ◌+◌, ◌<◌, ◌≤◌, Bool, true, false, ◌||◌, cond, codes, option_map, List, [], ◌∷◌, length, Option, Some, None, Ok, Err, is_some, refl, ap, arith}
 use Rattle.protox_lex.specs.Class.{Text}
 use Rattle.protox_lex.specs.declared.span.Span.{Span}
 use Rattle.text_lex.specs.Token.{Token, Lexeme, token_at, fault}
-use Rattle.text_model.specs.Tree.{FieldName, braced, Values, more_values, Given, listed, Fields, more_fields, ScalarValue, signed, strings, plain, extension, expansion, Brace, Value}
+use Rattle.text_model.specs.Tree.{FieldName, braced, Values, more_values, Given, listed, Fields, more_fields, ScalarValue, signed, strings, plain, extension, expansion, Brace}
 use Rattle.text_model.specs.Tokens.{name_tokens, scalar_tokens}
 use Rattle.text_scalars.specs.declared.tokens.Brace as code
 use Rattle.text_scalars.specs.Braces.{closing, opening_brace}
@@ -21,10 +21,6 @@ use Rattle.text_syntax.specs.Syntax.{Read, then, untold, Inner, OneField, alone,
 abbrev pub Shorter : {A : Type 0} → ℕ → Read A → Type 0
 Shorter n (Some p) = length p.1 < n
 Shorter n None = Unit {0}
-
-pub taken : {A : Type 0} (n : ℕ) (r : Read A) (x : A) (rest : List Lexeme) → Shorter n r
-    → r ≡ Some (x, rest) → length rest < n
-taken n r x rest h e = subst (Shorter n) e h
 
 pub within : {A : Type 0} (n m : ℕ) (r : Read A) → n ≤ m → Shorter n r → Shorter m r
 within n m (Some p) le h = omega (arith, le, h)
@@ -287,40 +283,6 @@ unfolding text_at
 text_is ls = refl
 
 -- ---- how much is taken, where something is read
-
-pub message_takes : (n : ℕ) (ls : List Lexeme) (m : Brace × Fields) (rest : List Lexeme)
-    → message_at n ls ≡ Some (m, rest) → length rest < length ls
-message_takes n ls m rest e = taken (length ls) (message_at n ls) m rest (message_shorter n ls) e
-
-pub value_takes : (n : ℕ) (ls : List Lexeme) (v : Value) (rest : List Lexeme)
-    → value_at (message_at n) ls ≡ Some (v, rest) → length rest < length ls
-value_takes n ls v rest e =
-    taken (length ls) (value_at (message_at n) ls) v rest
-    (value_shorter (message_at n) (message_shorter n) ls) e
-
-pub more_takes : (n : ℕ) (ls : List Lexeme) (vs : Values) (rest : List Lexeme)
-    → more_at (message_at n) ls ≡ Some (vs, rest) → length rest < length ls
-more_takes n ls vs rest e =
-    taken (length ls) (more_at (message_at n) ls) vs rest
-    (more_shorter (message_at n) (message_shorter n) ls) e
-
-pub list_takes : (n : ℕ) (ls : List Lexeme) (vs : Values) (rest : List Lexeme)
-    → list_at (message_at n) ls ≡ Some (vs, rest) → length rest < length ls
-list_takes n ls vs rest e =
-    taken (length ls) (list_at (message_at n) ls) vs rest
-    (list_shorter (message_at n) (message_shorter n) ls) e
-
-pub given_takes : (n : ℕ) (colon : Bool) (ls : List Lexeme) (g : Given) (rest : List Lexeme)
-    → given_at (message_at n) colon ls ≡ Some (g, rest) → length rest < length ls
-given_takes n colon ls g rest e =
-    taken (length ls) (given_at (message_at n) colon ls) g rest
-    (given_shorter (message_at n) (message_shorter n) colon ls) e
-
-pub field_takes : (n : ℕ) (ls : List Lexeme) (f : OneField) (rest : List Lexeme)
-    → field_at (message_at n) ls ≡ Some (f, rest) → length rest < length ls
-field_takes n ls f rest e =
-    taken (length ls) (field_at (message_at n) ls) f rest
-    (field_shorter (message_at n) (message_shorter n) ls) e
 
 -- ---- where no name begins
 
