@@ -1,2 +1,3 @@
 pub mod Clones
+pub mod FieldNumbers
 pub mod Messages

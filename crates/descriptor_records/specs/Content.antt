@@ -1,5 +1,5 @@
 -- What records hold, without where they lie in memory: texts are bytes, vectors are lists.
-use Rattle.std.specs.Prelude.{ℕ, ℤ, Bool, List, [], ◌∷◌, map, Option, option_map, String, string_bytes}
+use Rattle.std.specs.Prelude.{ℕ, ℤ, Bool, List, [], ◌∷◌, map, Option, Some, None, option_map, String, string_bytes}
 use Rattle.std.specs.declared.alloc.Global.{Global}
 use Rattle.std.specs.declared.vec.Vec.{Vec}
 use Rattle.descriptor_records.specs.declared.enums.EnumDescriptorProto.{EnumDescriptorProto}
@@ -29,6 +29,11 @@ Text = List ℕ
 
 abbrev pub text_view : Option (String Global) → Option Text
 text_view = option_map string_bytes
+
+-- what a record has of a text that may be missing
+abbrev pub text_of : Option (String Global) → Text
+text_of None = []
+text_of (Some s) = string_bytes s
 
 abbrev pub texts_view : Vec (String Global) Global → List Text
 texts_view v = map string_bytes v.items

@@ -70,6 +70,7 @@ pub enum Label {
 
 impl Label {
     /// The number that stands for the label in a record.
+    #[inline]
     pub fn number(self) -> i32
         ensures { result ≡ label_number self }
     {
@@ -77,6 +78,7 @@ impl Label {
     }
 
     /// The label of a number, if there is one.
+    #[inline]
     pub fn from_number(number: i32) -> Option<Label>
         ensures { IsLabelOf number result }
     {
@@ -114,6 +116,7 @@ pub enum FieldType {
 
 impl FieldType {
     /// The number that stands for the type in a record.
+    #[inline]
     pub fn number(self) -> i32
         ensures { result ≡ type_number self }
     {
@@ -121,6 +124,7 @@ impl FieldType {
     }
 
     /// The type of a number, if there is one.
+    #[inline]
     pub fn from_number(number: i32) -> Option<FieldType>
         ensures { IsTypeOf number result }
     {

@@ -13,6 +13,7 @@ mod path;
 mod service;
 mod source_info;
 pub mod tag;
+mod text;
 
 pub use enums::{EnumDescriptorProto, EnumReservedRange, EnumValueDescriptorProto};
 pub use field::{FieldDescriptorProto, FieldType, Label, MAX_FIELD_NUMBER, OneofDescriptorProto};
@@ -22,3 +23,4 @@ pub use options::{DoubleValue, NamePart, Options, UninterpretedOption};
 pub use path::join_path;
 pub use service::{MethodDescriptorProto, ServiceDescriptorProto};
 pub use source_info::{Location, SourceCodeInfo};
+pub use text::text_of;

@@ -102,7 +102,7 @@ fn bad(alloc: Global, name: &str) -> Result<OptionErrorKind, AllocError>
 /// 1000 on for extensions; those of fields, enums and messages must have a singular truth value
 /// `packed` 2, `allow_alias` 2 and `map_entry` 7.
 ///
-/// What is told is the first type that is not so, by its name. Refused for want of memory alone.
+/// What is told is a type that is not so, by its name. Refused for want of memory alone.
 pub fn check_option_types(
     alloc: Global,
     pool: &DescriptorPool,
@@ -121,8 +121,8 @@ pub fn check_option_types(
     Ok(None)
 }
 
-/// What is wrong with the pool's types of options, where all nine must be there: the first that is
-/// missing, else as `check_option_types`. Refused for want of memory alone.
+/// What is wrong with the pool's types of options, where all nine must be there: one that is missing
+/// or is not as `check_option_types` asks. Refused for want of memory alone.
 pub fn require_option_types(
     alloc: Global,
     pool: &DescriptorPool,

@@ -28,6 +28,7 @@ pub enum ValueFault {
     Unsuited,
     /// The text in its braces is refused.
     Text(ParseError),
+    /// Want of memory.
     Memory,
 }
 

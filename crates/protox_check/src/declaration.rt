@@ -15,6 +15,7 @@ use protox_tree::{
 };
 use std::alloc::{AllocError, Global};
 
+/// Lists what is wrong with a message and with all that stands in it.
 #[cycle(check)]
 pub fn check_message(
     alloc: Global,
@@ -151,6 +152,7 @@ fn is_field(item: &OneofItem) -> bool
     matches!(item, OneofItem::Field(_))
 }
 
+/// Lists what is wrong with the fields of an `extend` statement.
 #[cycle(check)]
 pub fn check_extend(
     alloc: Global,

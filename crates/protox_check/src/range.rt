@@ -89,6 +89,7 @@ fn check_ranges(
     Ok(())
 }
 
+/// Lists what is wrong with an `extensions` statement.
 pub fn check_extensions(
     syntax: Syntax,
     extensions: &Extensions,
@@ -147,6 +148,7 @@ pub fn check_reserved(
     check_items(alloc, Numbers::Fields, &reserved.items, faults)
 }
 
+/// Lists what is wrong with the numbers of an enum's values, and with what it reserves.
 pub fn check_enum(
     alloc: Global,
     enumeration: &Enum,

@@ -82,6 +82,7 @@ pub fn field_name(alloc: Global, name: &str, is_group: bool) -> Result<String, A
     }
 }
 
+/// The field is a group.
 pub fn is_group(kind: &FieldKind) -> bool
     ensures { result ≡ fields.is_group (kind_view kind.now) }
 {

@@ -11,3 +11,4 @@ pub mod Orders
 pub mod Sources
 pub mod WorkedSources
 pub mod Sizes
+pub mod WorkedGaps

@@ -1,3 +1,4 @@
 pub mod SameFaults
 pub mod Sizes
+pub mod WorkedGaps
 pub mod WorkedSources

@@ -5,10 +5,13 @@
 //! These sources pin, apart from that, what they read.
 
 ghost use Rattle.protox_file.specs.Sources.{RefusedBy, Spells};
+ghost use Rattle.protox_laws.specs.WorkedGaps.{gaps};
 ghost use Rattle.protox_laws.specs.WorkedSources.{at_fault, braces, in_option, messages, read, refused};
+ghost use Rattle.protox_locate.specs.Gap.{comments_in};
 ghost use Rattle.protox_parse.specs.Answers.{AreAtFault};
 ghost use Rattle.protox_tree.specs.FileTree.{File};
 ghost use Rattle.std.specs.List.{AllByRecursion};
+ghost use Rattle.std.specs.Prelude.{◌≡◌};
 
 /// Worked sources spell these trees, and messages and braces in one another some, as deep as they
 /// may nest.
@@ -26,4 +29,10 @@ pub fn worked_sources_are_refused()
 /// Others spell trees that break a rule, and these are all their faults: one source for each rule.
 pub fn worked_sources_are_at_fault()
     ensures { AllByRecursion (λ e. AreAtFault e.0 e.1) at_fault }
+{}
+
+/// Worked gaps between tokens have these comments: the one of the statement in front, those that
+/// stand apart, and the one of what follows.
+pub fn worked_gaps_have_their_comments()
+    ensures { AllByRecursion (λ g. comments_in g.text g.may_trail g.behind ≡ g.notes) gaps }
 {}

@@ -1,3 +1,4 @@
+pub mod Span
 pub mod Class
 pub mod Ascii
 pub mod Token

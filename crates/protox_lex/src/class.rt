@@ -4,11 +4,14 @@ ghost use Rattle.std.specs.Prelude.{◌≡◌, ◌≢◌, ◌<◌, ◌≤◌, le
 ghost use Rattle.protox_lex.specs.Class as spec;
 ghost use Rattle.protox_lex.specs.Ascii.{IsAsciiTo, is_ascii_class};
 
+/// A class of bytes.
 #[derive(Clone, Copy, Debug)]
 pub enum Class {
     Blank,
+    /// All but a line feed.
     Line,
     Alphabetic,
+    /// A letter or `_`; a `Word` has digits too.
     Letter,
     Word,
     Digit,
@@ -16,6 +19,8 @@ pub enum Class {
     Hex,
 }
 
+/// The byte is of the class. Callers name the class: inlined, its test alone is left.
+#[inline(always)]
 pub fn is_in(class: Class, b: u8) -> bool
     ensures { result ≡ spec.is_in class b }
 {
@@ -39,7 +44,9 @@ pub fn byte(z: &[u8], at: usize) -> u8
     if at < z.len() { z[at] } else { 0 }
 }
 
-/// The first place from `at` on whose byte is not of the class.
+/// The first place from `at` on whose byte is not of the class. The loop has the test of the class
+/// that a caller names alone, as [`is_in`] has.
+#[inline(always)]
 pub fn past(class: Class, z: &[u8], at: usize) -> usize
     requires { at ≤ length z.now }
     ensures value { result ≡ spec.past class z.now at }

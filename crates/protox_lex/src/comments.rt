@@ -101,7 +101,7 @@ impl Comments {
     }
 
     /// Drops all comments.
-    pub fn reset(&mut self)
+    fn reset(&mut self)
         ensures texts { (blocks self.new).texts ≡ [] }
         ensures open { (blocks self.new).is_open ≡ false }
         ensures parted { (blocks self.new).is_parted ≡ false }

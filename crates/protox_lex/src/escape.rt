@@ -111,10 +111,7 @@ fn char_of(number: Option<u64>, len: usize) -> Result<(Meaning, usize), usize>
     ensures ok { IfOk result (λ p. p.1 ≡ len) }
     ensures err { IfErr result (λ n. n ≡ len) }
 {
-    let Some(n) = number else {
-        return Err(len);
-    };
-    match scalar(n) {
+    match number.and_then(scalar) {
         Some(c) => Ok((Meaning::Char(c), len)),
         None => Err(len),
     }

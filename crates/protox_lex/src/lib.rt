@@ -16,11 +16,13 @@ mod quoted;
 mod span;
 pub mod token;
 
+pub use class::{Class, is_in, past};
 pub use comments::Comments;
 pub use error::{LexError, LexErrorKind};
 pub use escape::{Escaped, Meaning, is_escaped, unescape, unit};
 pub use lexer::{Lexeme, Lexer};
 pub use lines::LineResolver;
 pub use literal::{Float, Int, String};
-pub use span::Span;
+pub use number::value as digits_value;
+pub use span::{Span, across};
 pub use token::{MAX_BRACES, Sign, Token};

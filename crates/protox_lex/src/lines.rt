@@ -33,8 +33,8 @@ impl LineResolver {
         Ok(LineResolver { ends })
     }
 
-    /// The line and the column of an offset: the line feeds before it, and the bytes behind the
-    /// last of them. Takes no memory.
+    /// The line and the column of an offset that an `i32` counts: the line feeds before it, and the
+    /// bytes behind the last of them. Takes no memory.
     pub fn resolve(&self, offset: usize) -> (i32, i32)
         requires { offset < 2 ^ 31 }
         ensures line { result.0 ≡ pos (line_at (feeds self.now) offset) }

@@ -53,11 +53,7 @@ impl Int {
     pub fn as_u64(&self) -> Option<u64>
         ensures { SomeIff result (self.now.negative ≡ false) self.now.value }
     {
-        if self.negative {
-            None
-        } else {
-            Some(self.value)
-        }
+        (!self.negative).then_some(self.value)
     }
 }
 
@@ -75,7 +71,7 @@ impl fmt::Display for Int {
     }
 }
 
-/// A floating-point number, as it is written, with its sign.
+/// A floating-point number, as it is written but for its sign, with which its span begins.
 #[derive(Drop, PartialEq, Debug)]
 pub struct Float {
     pub text: Text,

@@ -10,18 +10,22 @@ use crate::error::LexErrorKind;
 use crate::front::{Flaw, Piece, ascii_text};
 use crate::token::Token;
 
+/// What a digit counts.
 fn digit(b: u8) -> u64
     ensures value { result ≡ spec.digit b }
     ensures small { result < 256 }
 {
-    if b <= b'9' {
-        u64::from(b.saturating_sub(b'0'))
+    if b.is_ascii_digit() {
+        u64::from(b - b'0')
     } else if b <= b'F' {
-        u64::from(b.saturating_sub(55))
+        u64::from(b.saturating_sub(b'A' - 10))
     } else {
-        u64::from(b.saturating_sub(87))
+        u64::from(b.saturating_sub(b'a' - 10))
     }
 }
+
+/// A number below this bound has at most 64 bits with a further digit too, in each radix.
+const SHORT: u64 = 1 << 59;
 
 /// The number that digits write, if it has at most 64 bits.
 pub fn value(radix: u64, digits: &[u8]) -> Option<u64>
@@ -30,7 +34,12 @@ pub fn value(radix: u64, digits: &[u8]) -> Option<u64>
 {
     let mut n = 0u64;
     for b in digits {
-        n = n.checked_mul(radix)?.checked_add(digit(*b))?;
+        let more = digit(*b);
+        n = if n < SHORT {
+            n * radix + more
+        } else {
+            n.checked_mul(radix)?.checked_add(more)?
+        };
     }
     Some(n)
 }

@@ -11,13 +11,14 @@ use Rattle.descriptor_records.specs.declared.tag.field.TheConstants as fields
 use Rattle.descriptor_records.specs.declared.tag.method.TheConstants as methods
 use Rattle.descriptor_records.specs.declared.tag.reserved_range.TheConstants as ranges
 use Rattle.descriptor_records.specs.declared.tag.service.TheConstants as services
+use Rattle.protox_lex.specs.Span.{across}
 use Rattle.protox_lex.specs.declared.span.Span.{Span}
 use Rattle.protox_locate.specs.Located.{Event, Path, closing, empty, inside, part, statement}
 use Rattle.protox_locate.specs.declared.enums.EnumCounts.{EnumCounts}
 use Rattle.protox_locate.specs.declared.slot.Count.{Count}
 use Rattle.protox_locate.specs.declared.services.ServiceCounts.{ServiceCounts}
 use Rattle.protox_locate.specs.declared.ranges.ReservedLists.{ReservedLists}
-use Rattle.protox_tree.specs.Places.{across, body_span, end_span, range_span, type_name_span, value_span}
+use Rattle.protox_tree.specs.Places.{body_span, end_span, range_span, type_name_span, value_span}
 use Rattle.protox_tree.specs.Tree.{Body, Enum, EnumItem, EnumValue, Method, MethodBody, MethodItem, MethodType, OptionList, OptionStatement, Reserved, ReservedItems, Service, ServiceItem, Word, enum_value, enum_option, enum_reserved, enum_empty, has_name, method_option, method_empty, reserved_ranges, reserved_names, service_method, service_option, service_empty, words_span}
 use Rattle.protox_tree.specs.declared.range.ReservedRange.{ReservedRange}
 

@@ -68,24 +68,15 @@ fn enum_item(
 {
     match item {
         EnumItem::Value(one) => {
-            let place = counts.values.next();
-            let at = locator.entry(path, tag::enumeration::VALUE, place)?;
-            value(locator, at.as_slice(), one)?;
-            Ok(())
+            let at = locator.entry(path, tag::enumeration::VALUE, counts.values.next())?;
+            value(locator, at.as_slice(), one)
         }
         EnumItem::Option(option) => {
             let options = tag::enumeration::OPTIONS;
-            option_statement(locator, path, options, &mut counts.options, option)?;
-            Ok(())
+            option_statement(locator, path, options, &mut counts.options, option)
         }
-        EnumItem::Reserved(statement) => {
-            reserved(locator, path, &mut counts.lists, statement)?;
-            Ok(())
-        }
-        EnumItem::Empty(span) => {
-            locator.pass(*span)?;
-            Ok(())
-        }
+        EnumItem::Reserved(statement) => reserved(locator, path, &mut counts.lists, statement),
+        EnumItem::Empty(span) => locator.pass(*span),
     }
 }
 

@@ -72,10 +72,7 @@ fn field_parts(
 fn label_span(field: &Field) -> Option<Span>
     ensures { result ≡ spec.label_span field.now.label }
 {
-    match field.label {
-        Some((_, span)) => Some(span),
-        None => None,
-    }
+    Some(field.label?.1)
 }
 
 /// A group's name is that of its type too.

@@ -87,10 +87,7 @@ fn syntax(locator: &mut Locator<'_>, statement: &Option<SyntaxStatement>) -> Res
         ≡ meets (state locator.old) (spec.syntax_events (option_map syntax_view statement.now))) }
 {
     match statement {
-        Some(syntax) => {
-            locator.statement(&[], &[tag::file::SYNTAX], syntax.span)?;
-            Ok(())
-        }
+        Some(syntax) => locator.statement(&[], &[tag::file::SYNTAX], syntax.span),
         None => Ok(()),
     }
 }
@@ -106,42 +103,26 @@ fn file_item(
         ≡ spec.after_item counts.old (file_item_view item.now)) }
 {
     match item {
-        FileItem::Import(statement) => {
-            import(locator, counts, statement)?;
-            Ok(())
-        }
-        FileItem::Package(package) => {
-            locator.statement(&[], &[tag::file::PACKAGE], package.span)?;
-            Ok(())
-        }
+        FileItem::Import(statement) => import(locator, counts, statement),
+        FileItem::Package(package) => locator.statement(&[], &[tag::file::PACKAGE], package.span),
         FileItem::Option(option) => {
             let options = tag::file::OPTIONS;
-            option_statement(locator, &[], options, &mut counts.options, option)?;
-            Ok(())
+            option_statement(locator, &[], options, &mut counts.options, option)
         }
         FileItem::Message(statement) => {
             let path = [tag::file::MESSAGE_TYPE, counts.message_types.next()];
-            message(locator, &path, statement)?;
-            Ok(())
+            message(locator, &path, statement)
         }
         FileItem::Enum(statement) => {
             let path = [tag::file::ENUM_TYPE, counts.enum_types.next()];
-            enumeration(locator, &path, statement)?;
-            Ok(())
+            enumeration(locator, &path, statement)
         }
         FileItem::Service(statement) => {
             let path = [tag::file::SERVICE, counts.services.next()];
-            service(locator, &path, statement)?;
-            Ok(())
+            service(locator, &path, statement)
         }
-        FileItem::Extend(statement) => {
-            file_extend(locator, counts, statement)?;
-            Ok(())
-        }
-        FileItem::Empty(span) => {
-            locator.pass(*span)?;
-            Ok(())
-        }
+        FileItem::Extend(statement) => file_extend(locator, counts, statement),
+        FileItem::Empty(span) => locator.pass(*span),
     }
 }
 

@@ -23,7 +23,8 @@ enum Front {
     Statement(usize),
 }
 
-/// The locations of a source, collected in source order.
+/// The locations of a source, collected in source order. Calls are refused for want of memory
+/// alone, and then it is not said which locations there are.
 #[derive(Drop)]
 pub struct Locator<'a> {
     alloc: Global,

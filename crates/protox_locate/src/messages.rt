@@ -118,47 +118,28 @@ fn message_item(
     ensures counted { OnOk result (counts.new ≡ spec.after_item counts.old (item_view item.now)) }
 {
     match item {
-        MessageItem::Field(one) => {
-            message_field(locator, path, counts, one)?;
-            Ok(())
-        }
-        MessageItem::Oneof(statement) => {
-            message_oneof(locator, path, counts, statement)?;
-            Ok(())
-        }
+        MessageItem::Field(one) => message_field(locator, path, counts, one),
+        MessageItem::Oneof(statement) => message_oneof(locator, path, counts, statement),
         MessageItem::Message(statement) => {
-            let place = counts.nested_types.next();
-            let at = locator.entry(path, tag::message::NESTED_TYPE, place)?;
-            message(locator, at.as_slice(), statement)?;
-            Ok(())
+            let at = locator.entry(path, tag::message::NESTED_TYPE, counts.nested_types.next())?;
+            message(locator, at.as_slice(), statement)
         }
         MessageItem::Enum(statement) => {
-            let place = counts.enum_types.next();
-            let at = locator.entry(path, tag::message::ENUM_TYPE, place)?;
-            enumeration(locator, at.as_slice(), statement)?;
-            Ok(())
+            let at = locator.entry(path, tag::message::ENUM_TYPE, counts.enum_types.next())?;
+            enumeration(locator, at.as_slice(), statement)
         }
-        MessageItem::Extend(statement) => {
-            message_extend(locator, path, counts, statement)?;
-            Ok(())
-        }
+        MessageItem::Extend(statement) => message_extend(locator, path, counts, statement),
         MessageItem::Extensions(statement) => {
-            extensions(locator, path, &mut counts.extension_ranges, statement)?;
-            Ok(())
+            extensions(locator, path, &mut counts.extension_ranges, statement)
         }
         MessageItem::Reserved(statement) => {
-            reserved(locator, path, &mut counts.reserved, statement)?;
-            Ok(())
+            reserved(locator, path, &mut counts.reserved, statement)
         }
         MessageItem::Option(option) => {
             let options = tag::message::OPTIONS;
-            option_statement(locator, path, options, &mut counts.options, option)?;
-            Ok(())
+            option_statement(locator, path, options, &mut counts.options, option)
         }
-        MessageItem::Empty(span) => {
-            locator.pass(*span)?;
-            Ok(())
-        }
+        MessageItem::Empty(span) => locator.pass(*span),
     }
 }
 
@@ -339,10 +320,7 @@ fn member(
         ≡ spec.after_member counts.old (member_view item.now)) }
 {
     match item {
-        OneofItem::Field(one) => {
-            field(locator, path, own_tags(), &mut counts.fields, None, one)?;
-            Ok(())
-        }
+        OneofItem::Field(one) => field(locator, path, own_tags(), &mut counts.fields, None, one),
         OneofItem::Option(option) => {
             option_statement(
                 locator,
@@ -350,13 +328,9 @@ fn member(
                 tag::oneof::OPTIONS,
                 &mut counts.options,
                 option,
-            )?;
-            Ok(())
+            )
         }
-        OneofItem::Empty(span) => {
-            locator.pass(*span)?;
-            Ok(())
-        }
+        OneofItem::Empty(span) => locator.pass(*span),
     }
 }
 
@@ -400,13 +374,7 @@ fn added(
         ≡ spec.after_added_item counts.old (added_view item.now)) }
 {
     match item {
-        ExtendItem::Field(one) => {
-            field(locator, path, tags, counts, Some(extendee), one)?;
-            Ok(())
-        }
-        ExtendItem::Empty(span) => {
-            locator.pass(*span)?;
-            Ok(())
-        }
+        ExtendItem::Field(one) => field(locator, path, tags, counts, Some(extendee), one),
+        ExtendItem::Empty(span) => locator.pass(*span),
     }
 }

@@ -8,7 +8,7 @@ ghost use Rattle.protox_tree.specs.View.{body_view, option_list_view, option_vie
 use crate::locator::Locator;
 use crate::slot::Count;
 use descriptor_records::tag;
-use protox_lex::Span;
+use protox_lex::{Span, across};
 use protox_tree::{OptionBody, OptionList, OptionStatement};
 use std::alloc::AllocError;
 
@@ -37,10 +37,7 @@ fn inner_span(list: &OptionList) -> Span
     ensures { result ≡ spec.inner_span (option_list_view list.now) }
 {
     match (list.options.first(), list.options.last()) {
-        (Some(first), Some(last)) => Span {
-            start: first.span().start,
-            end: last.span().end,
-        },
+        (Some(first), Some(last)) => across(first.span(), last.span()),
         _ => list.span,
     }
 }

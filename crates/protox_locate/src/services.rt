@@ -63,18 +63,13 @@ fn service_item(
     match item {
         ServiceItem::Method(one) => {
             let at = locator.entry(path, tag::service::METHOD, counts.methods.next())?;
-            method(locator, at.as_slice(), one)?;
-            Ok(())
+            method(locator, at.as_slice(), one)
         }
         ServiceItem::Option(option) => {
             let options = tag::service::OPTIONS;
-            option_statement(locator, path, options, &mut counts.options, option)?;
-            Ok(())
+            option_statement(locator, path, options, &mut counts.options, option)
         }
-        ServiceItem::Empty(span) => {
-            locator.pass(*span)?;
-            Ok(())
-        }
+        ServiceItem::Empty(span) => locator.pass(*span),
     }
 }
 
@@ -98,14 +93,8 @@ fn begin_method(locator: &mut Locator<'_>, path: &[i32], method: &Method) -> Res
         (spec.end_in method.now.span (option_map method_body_view method.now.body)))) }
 {
     match &method.body {
-        Some(body) => {
-            locator.enter(path, &[], method.span, body.braces)?;
-            Ok(())
-        }
-        None => {
-            locator.statement(path, &[], method.span)?;
-            Ok(())
-        }
+        Some(body) => locator.enter(path, &[], method.span, body.braces),
+        None => locator.statement(path, &[], method.span),
     }
 }
 
@@ -160,12 +149,8 @@ fn method_item(
 {
     match item {
         MethodItem::Option(option) => {
-            option_statement(locator, path, tag::method::OPTIONS, options, option)?;
-            Ok(())
+            option_statement(locator, path, tag::method::OPTIONS, options, option)
         }
-        MethodItem::Empty(span) => {
-            locator.pass(*span)?;
-            Ok(())
-        }
+        MethodItem::Empty(span) => locator.pass(*span),
     }
 }

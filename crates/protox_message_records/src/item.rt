@@ -36,6 +36,7 @@ pub fn own_extensions(
     Ok(fields)
 }
 
+/// The enums that are declared in a message.
 pub fn enums(
     alloc: Global,
     items: &Vec<MessageItem>,
@@ -94,6 +95,7 @@ fn member_options(alloc: Global, items: &Vec<OneofItem>) -> Result<Option<Option
     Ok(declared(alloc, written))
 }
 
+/// The options of a message, where any are written.
 pub fn options(alloc: Global, items: &Vec<MessageItem>) -> Result<Option<Options>, AllocError>
     ensures { IfOk result (λ options. option_map content.options_view options
         ≡ options_of (flat_map messages.option_at items.now.items)) }

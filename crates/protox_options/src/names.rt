@@ -31,6 +31,7 @@ pub fn parts_after<'a>(
     Ok(FullIdent::from_idents(list))
 }
 
+/// A name: words with dots between them, at least one.
 pub fn full_ident<'a>(alloc: Global, tokens: &mut Tokens<'a>) -> Result<FullIdent, Stop<'a>>
     ensures reads { Reads full_view (spec.full_ident (stream tokens.old)) result tokens.new }
     ensures moves { OnOk result (left tokens.new < left tokens.old) }
@@ -39,6 +40,7 @@ pub fn full_ident<'a>(alloc: Global, tokens: &mut Tokens<'a>) -> Result<FullIden
     parts_after(alloc, tokens, first)
 }
 
+/// The name of a type, which may begin with a dot.
 pub fn type_name<'a>(alloc: Global, tokens: &mut Tokens<'a>) -> Result<TypeName, Stop<'a>>
     ensures reads { Reads type_name_view (spec.type_name (stream tokens.old)) result tokens.new }
     ensures moves { OnOk result (left tokens.new < left tokens.old) }
@@ -85,6 +87,7 @@ pub fn strings<'a>(alloc: Global, tokens: &mut Tokens<'a>) -> Result<Strings, St
     Ok(Strings::from_literals(list))
 }
 
+/// The next token is a string literal.
 pub fn is_string(tokens: &Tokens<'_>) -> bool
     ensures { result ≡ parser.is_string (stream tokens.now) }
 {

@@ -36,6 +36,7 @@ fn range<'a>(tokens: &mut Tokens<'a>) -> Result<ReservedRange, Stop<'a>>
     Ok(ReservedRange { start, end })
 }
 
+/// Ranges with commas between them, at least one.
 pub fn ranges<'a>(alloc: Global, tokens: &mut Tokens<'a>) -> Result<Vec<ReservedRange>, Stop<'a>>
     ensures reads { Reads (λ v. v.items) (spec.ranges (stream tokens.old)) result tokens.new }
     ensures moves { OnOk result (left tokens.new < left tokens.old) }

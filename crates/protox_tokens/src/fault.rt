@@ -11,18 +11,24 @@ use std::alloc::{AllocError, AllocFailed, Global};
 /// The first fault of a source that cannot be read as a tree.
 #[derive(Clone, Copy)]
 pub enum Fault<'a> {
+    /// A token that cannot follow those before it.
     Unexpected {
         expected: ExpectedToken,
         found: Token<'a>,
         span: Span,
     },
+    /// The source ends where a token has to follow.
     Eof {
         expected: ExpectedToken,
     },
+    /// What stands there is no token, or one that text format alone has, or, as the value of an
+    /// option, an integer below -2^63.
     Lexical(LexError),
+    /// A syntax other than proto2 and proto3.
     UnknownSyntax {
         span: Span,
     },
+    /// A brace that opens more levels than there may be.
     TooDeep {
         span: Span,
     },
@@ -54,7 +60,9 @@ impl Fault<'_> {
 /// Why a rule of the grammar gives no tree.
 #[derive(Clone, Copy)]
 pub enum Stop<'a> {
+    /// Want of memory.
     Memory,
+    /// The source is at fault.
     Refused(Fault<'a>),
 }
 

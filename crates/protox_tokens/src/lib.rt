@@ -6,5 +6,6 @@ mod parts;
 mod tokens;
 
 pub use fault::{Fault, Stop};
-pub use parts::{across, one};
+pub use parts::one;
+pub use protox_lex::across;
 pub use tokens::Tokens;

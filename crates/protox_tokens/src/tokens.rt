@@ -25,7 +25,7 @@ use std::alloc::Global;
 /// In an option's braces text format stands, where comments may begin with `#` and numbers end with
 /// `f`. Which of the two stands next is for the caller to say: the calls whose name ends with
 /// `in_text` take the next token as text format has it, all others refuse what text format alone
-/// has.
+/// has. A call that refuses the next token does not take it.
 #[derive(Clone, Copy)]
 pub struct Tokens<'a> {
     lexer: Lexer<'a>,

@@ -4,7 +4,7 @@ use Rattle.std.specs.Prelude.{map, option_map, slice_get, get_or}
 use Rattle.std.proofs.lemmas.List.{length-map}
 use Rattle.std.proofs.lemmas.Option.{slice_get-map, slice_get-get_or}
 use Rattle.protox_lex.specs.declared.span.Span.{Span}
-use Rattle.protox_tree.specs.Places.{across}
+use Rattle.protox_lex.specs.Span.{across}
 use Rattle.protox_tree.specs.Tree.{span_between, spans_cover}
 
 -- parts as they are seen in the tree, each with its place

@@ -1,17 +1,14 @@
 -- Where the parts of a tree stand.
 use Rattle.std.specs.Prelude.{List, map, Option, None, Some}
 use Rattle.protox_lex.specs.declared.literal.Int.{Int}
+use Rattle.protox_lex.specs.Span.{across}
 use Rattle.protox_lex.specs.declared.span.Span.{Span}
 use Rattle.protox_tree.specs.Tree.{TypeName, Ty, scalar, named, NamePart, plain, extension, Value, word_value, minus_word, int_value, float_value, strings_value, braces_value, Body, spans_cover, words_span}
 use Rattle.protox_tree.specs.declared.range.RangeEnd.{RangeEnd}
 use Rattle.protox_tree.specs.declared.range.RangeEnd.TheVariants as ends
 use Rattle.protox_tree.specs.declared.range.ReservedRange.{ReservedRange}
 
--- from the start of the first to the end of the last
-abbrev pub across : Span → Span → Span
-across first last = record { start = first.start; end = last.end }
-
--- the same, where there may be no first
+-- from the start of the first to the end of the last, where there may be no first
 abbrev pub across_from : Option Span → Span → Span
 across_from None last = last
 across_from (Some first) last = across first last

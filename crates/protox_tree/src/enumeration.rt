@@ -5,6 +5,7 @@ use crate::option::{OptionList, OptionStatement};
 use crate::range::Reserved;
 use protox_lex::{Int, Span};
 
+/// The statement `enum .. { .. }`.
 #[derive(Drop)]
 pub struct Enum {
     pub name: Ident,
@@ -14,6 +15,7 @@ pub struct Enum {
     pub span: Span,
 }
 
+/// A statement in an enum's braces.
 #[derive(Drop)]
 pub enum EnumItem {
     Value(EnumValue),
@@ -23,6 +25,7 @@ pub enum EnumItem {
     Empty(Span),
 }
 
+/// A value of an enum: its name, its number and its options.
 #[derive(Drop)]
 pub struct EnumValue {
     pub name: Ident,

@@ -43,6 +43,7 @@ pub struct SyntaxStatement {
     pub span: Span,
 }
 
+/// A statement of a file.
 #[derive(Drop)]
 pub enum FileItem {
     Import(Import),
@@ -77,6 +78,7 @@ impl FileItem {
     }
 }
 
+/// The statement `import .. ;`.
 #[derive(Drop)]
 pub struct Import {
     /// The word that stands behind `import`.
@@ -85,12 +87,14 @@ pub struct Import {
     pub span: Span,
 }
 
+/// A word that may stand behind `import`.
 #[derive(Clone, Copy)]
 pub enum ImportKind {
     Weak,
     Public,
 }
 
+/// The statement `package .. ;`.
 #[derive(Drop)]
 pub struct Package {
     pub name: FullIdent,

@@ -2,7 +2,7 @@
 
 ghost use Rattle.std.specs.Prelude.{◌≡◌, ◌<◌, [], ◌∷◌, Some, IfOk, string_bytes, vec_len};
 
-use protox_lex::Span;
+use protox_lex::{Span, across};
 use std::alloc::{AllocError, Global};
 use std::fmt;
 
@@ -14,6 +14,7 @@ pub struct Ident {
 }
 
 impl Ident {
+    /// A name of this text, which stands there.
     pub fn new(value: String, span: Span) -> Ident
         ensures { result ≡ record { value = value; span = span } }
     {
@@ -49,6 +50,7 @@ impl FullIdent {
         Ok(FullIdent { parts })
     }
 
+    /// Of these parts, at least one.
     pub fn from_idents(parts: Vec<Ident>) -> FullIdent
         requires { 0 < vec_len parts }
         ensures { full_view result ≡ idents_view parts.items }
@@ -56,22 +58,11 @@ impl FullIdent {
         FullIdent { parts }
     }
 
-    pub fn parts(&self) -> &[Ident]
-        ensures { idents_view result.now ≡ full_view self.now }
-    {
-        self.parts.as_slice()
-    }
-
     /// From the first part to the last.
     pub fn span(&self) -> Span
         ensures { result ≡ words_span (full_view self.now) }
     {
-        let first = self.parts[0].span;
-        let last = self.parts[self.parts.len() - 1].span;
-        Span {
-            start: first.start,
-            end: last.end,
-        }
+        across(self.parts[0].span, self.parts[self.parts.len() - 1].span)
     }
 
     /// The parts with dots between them. Refused only for want of memory.
@@ -125,10 +116,7 @@ impl TypeName {
     {
         let name = self.name.span();
         match self.leading_dot {
-            Some(dot) => Span {
-                start: dot.start,
-                end: name.end,
-            },
+            Some(dot) => across(dot, name),
             None => name,
         }
     }

@@ -8,6 +8,7 @@ use crate::types::Ty;
 use descriptor_records::Label;
 use protox_lex::{Int, Span};
 
+/// The statement `message .. { .. }`.
 #[derive(Drop)]
 #[cycle(message)]
 pub struct Message {
@@ -18,6 +19,7 @@ pub struct Message {
     pub span: Span,
 }
 
+/// A statement in the braces of a message or a group.
 #[derive(Drop)]
 #[cycle(message)]
 pub enum MessageItem {
@@ -45,6 +47,7 @@ pub struct Field {
     pub span: Span,
 }
 
+/// Which of the three a field is, and its type.
 #[derive(Drop)]
 #[cycle(message)]
 pub enum FieldKind {
@@ -72,6 +75,7 @@ pub struct Map {
     pub span: Span,
 }
 
+/// The statement `oneof .. { .. }`.
 #[derive(Drop)]
 #[cycle(message)]
 pub struct Oneof {
@@ -82,6 +86,7 @@ pub struct Oneof {
     pub span: Span,
 }
 
+/// A statement in a oneof's braces.
 #[derive(Drop)]
 #[cycle(message)]
 pub enum OneofItem {
@@ -102,6 +107,7 @@ pub struct Extend {
     pub span: Span,
 }
 
+/// A statement in the braces behind `extend`.
 #[derive(Drop)]
 #[cycle(message)]
 pub enum ExtendItem {

@@ -4,7 +4,7 @@ ghost use Rattle.std.specs.Prelude.{◌≡◌, ◌<◌, IfOk, string_bytes, vec_
 
 use crate::ident::{Ident, TypeName};
 use crate::text::Strings;
-use protox_lex::{Float, Int, Span};
+use protox_lex::{Float, Int, Span, across};
 use std::alloc::{AllocError, Global};
 
 /// A part of an option's name.
@@ -69,6 +69,7 @@ impl OptionValue {
     ghost use Rattle.protox_tree.specs.TreeTexts.{value_text};
     ghost use Rattle.protox_tree.specs.View.{value_view};
 
+    /// Where the value stands, with its sign.
     pub fn span(&self) -> Span
         ensures { result ≡ value_span (value_view self.now) }
     {
@@ -128,25 +129,17 @@ impl OptionBody {
     }
 
     /// From the first part of the name to the last.
-    pub fn name_span(&self) -> Span
+    fn name_span(&self) -> Span
         ensures { result ≡ places.name_span (body_view self.now).name }
     {
-        let first = self.name[0].span();
-        let last = self.name[self.name.len() - 1].span();
-        Span {
-            start: first.start,
-            end: last.end,
-        }
+        across(self.name[0].span(), self.name[self.name.len() - 1].span())
     }
 
     /// From the name to the value.
     pub fn span(&self) -> Span
         ensures { result ≡ places.body_span (body_view self.now) }
     {
-        Span {
-            start: self.name_span().start,
-            end: self.value.span().end,
-        }
+        across(self.name_span(), self.value.span())
     }
 }
 

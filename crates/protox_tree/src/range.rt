@@ -5,7 +5,7 @@ ghost use Rattle.protox_tree.specs.Places as places;
 
 use crate::option::OptionList;
 use crate::text::Strings;
-use protox_lex::{Int, Span};
+use protox_lex::{Int, Span, across};
 
 /// The second bound of a range.
 #[derive(Clone, Copy)]
@@ -25,6 +25,7 @@ pub struct ReservedRange {
 }
 
 impl ReservedRange {
+    /// That of the first bound.
     pub fn start_span(&self) -> Span
         ensures { result ≡ self.now.start.span }
     {
@@ -42,13 +43,11 @@ impl ReservedRange {
         }
     }
 
+    /// From the first bound to the second one, where that is written.
     pub fn span(&self) -> Span
         ensures { result ≡ places.range_span self.now }
     {
-        Span {
-            start: self.start.span.start,
-            end: self.end_span().end,
-        }
+        across(self.start.span, self.end_span())
     }
 }
 

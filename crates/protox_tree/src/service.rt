@@ -4,6 +4,7 @@ use crate::ident::{Ident, TypeName};
 use crate::option::OptionStatement;
 use protox_lex::Span;
 
+/// The statement `service .. { .. }`.
 #[derive(Drop)]
 pub struct Service {
     pub name: Ident,
@@ -13,6 +14,7 @@ pub struct Service {
     pub span: Span,
 }
 
+/// A statement in a service's braces.
 #[derive(Drop)]
 pub enum ServiceItem {
     Method(Method),
@@ -21,6 +23,7 @@ pub enum ServiceItem {
     Empty(Span),
 }
 
+/// The statement `rpc ..`, with a semicolon or braces behind it.
 #[derive(Drop)]
 pub struct Method {
     pub name: Ident,
@@ -47,6 +50,7 @@ pub struct MethodType {
     pub name: TypeName,
 }
 
+/// A statement in a method's braces.
 #[derive(Drop)]
 pub enum MethodItem {
     Option(OptionStatement),

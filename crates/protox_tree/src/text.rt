@@ -2,7 +2,7 @@
 
 ghost use Rattle.std.specs.Prelude.{◌≡◌, ◌<◌, IfOk, vec_len};
 
-use protox_lex::{Span, String as Literal};
+use protox_lex::{Span, String as Literal, across};
 use std::alloc::{AllocError, Global};
 
 /// String literals that stand one after the other and mean one string, at least one.
@@ -16,6 +16,7 @@ impl Strings {
     ghost use Rattle.protox_tree.specs.Tree as tree;
     ghost use Rattle.protox_tree.specs.View.{strings_view, literal_view, literals_view};
 
+    /// The string that these literals mean together; at least one.
     pub fn from_literals(literals: Vec<Literal>) -> Strings
         requires { 0 < vec_len literals }
         ensures { strings_view result ≡ literals_view literals.items }
@@ -23,6 +24,7 @@ impl Strings {
         Strings { literals }
     }
 
+    /// The literals, at least one.
     pub fn literals(&self) -> &[Literal]
         ensures { literals_view result.now ≡ strings_view self.now }
     {
@@ -33,12 +35,10 @@ impl Strings {
     pub fn span(&self) -> Span
         ensures { result ≡ tree.words_span (strings_view self.now) }
     {
-        let first = self.literals[0].span;
-        let last = self.literals[self.literals.len() - 1].span;
-        Span {
-            start: first.start,
-            end: last.end,
-        }
+        across(
+            self.literals[0].span,
+            self.literals[self.literals.len() - 1].span,
+        )
     }
 
     /// The bytes of all literals. Refused only for want of memory.

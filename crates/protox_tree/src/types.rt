@@ -1,7 +1,6 @@
 //! Types, and the two syntaxes.
 
 ghost use Rattle.std.specs.Prelude.{◌≡◌, Some, IfOk, option_map, string_bytes};
-ghost use Rattle.std.specs.Str.{bytes_eq};
 ghost use Rattle.protox_tree.specs.Places.{ty_span};
 ghost use Rattle.protox_tree.specs.Scalar.{scalar_of, scalar_type, written_name};
 ghost use Rattle.protox_tree.specs.View.{ty_view};
@@ -40,49 +39,28 @@ pub enum Ty {
     Named(TypeName),
 }
 
-fn is_word(text: &str, word: &str) -> bool
-    ensures { result ≡ bytes_eq text.now word.now }
-{
-    text == word
-}
-
 impl Ty {
     /// The scalar type of a word, if it is the word of one.
     pub fn scalar(word: &str) -> Option<FieldType>
         ensures { result ≡ scalar_of word.now }
     {
-        if is_word(word, "double") {
-            Some(FieldType::Double)
-        } else if is_word(word, "float") {
-            Some(FieldType::Float)
-        } else if is_word(word, "int32") {
-            Some(FieldType::Int32)
-        } else if is_word(word, "int64") {
-            Some(FieldType::Int64)
-        } else if is_word(word, "uint32") {
-            Some(FieldType::Uint32)
-        } else if is_word(word, "uint64") {
-            Some(FieldType::Uint64)
-        } else if is_word(word, "sint32") {
-            Some(FieldType::Sint32)
-        } else if is_word(word, "sint64") {
-            Some(FieldType::Sint64)
-        } else if is_word(word, "fixed32") {
-            Some(FieldType::Fixed32)
-        } else if is_word(word, "fixed64") {
-            Some(FieldType::Fixed64)
-        } else if is_word(word, "sfixed32") {
-            Some(FieldType::Sfixed32)
-        } else if is_word(word, "sfixed64") {
-            Some(FieldType::Sfixed64)
-        } else if is_word(word, "bool") {
-            Some(FieldType::Bool)
-        } else if is_word(word, "string") {
-            Some(FieldType::String)
-        } else if is_word(word, "bytes") {
-            Some(FieldType::Bytes)
-        } else {
-            None
+        match word {
+            "double" => Some(FieldType::Double),
+            "float" => Some(FieldType::Float),
+            "int32" => Some(FieldType::Int32),
+            "int64" => Some(FieldType::Int64),
+            "uint32" => Some(FieldType::Uint32),
+            "uint64" => Some(FieldType::Uint64),
+            "sint32" => Some(FieldType::Sint32),
+            "sint64" => Some(FieldType::Sint64),
+            "fixed32" => Some(FieldType::Fixed32),
+            "fixed64" => Some(FieldType::Fixed64),
+            "sfixed32" => Some(FieldType::Sfixed32),
+            "sfixed64" => Some(FieldType::Sfixed64),
+            "bool" => Some(FieldType::Bool),
+            "string" => Some(FieldType::String),
+            "bytes" => Some(FieldType::Bytes),
+            _ => None,
         }
     }
 
@@ -107,6 +85,7 @@ impl Ty {
         }
     }
 
+    /// Where the word or the name stands.
     pub fn span(&self) -> Span
         ensures { result ≡ ty_span (ty_view self.now) }
     {

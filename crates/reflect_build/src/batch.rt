@@ -50,10 +50,7 @@ fn total(count: usize, more: usize) -> Result<u32, VisitError>
     ensures sum { IfOk result (λ place. place ≡ count + more) }
     ensures few { IfOk result (λ place. place < 2 ^ 31) }
 {
-    match count.checked_add(more) {
-        Some(sum) => next_place(sum),
-        None => Err(VisitError::TooMany),
-    }
+    next_place(count.checked_add(more).ok_or(VisitError::TooMany)?)
 }
 
 /// How many entries there are with further ones.

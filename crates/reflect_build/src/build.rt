@@ -16,7 +16,7 @@ ghost use Rattle.reflect_build.specs.Parts.{AreParts, StaysOrGrows, holds_of, li
 ghost use Rattle.reflect_build.specs.Refusals.{is_unknown, Faulty, AreTooMany, AreRefused};
 
 use crate::batch::{link, next_place, offsets};
-use crate::forget::{forget_files, forget_names, forget_numbers};
+use crate::forget::forget;
 use crate::many::are_too_many;
 use descriptor_records::FileDescriptorProto;
 use reflect_growth::{Edit, cut, settle_all};
@@ -69,11 +69,7 @@ fn add_new(
         &mut parts.extension_numbers,
     );
     if outcome.is_err() {
-        forget_names(&mut parts.names, first);
-        forget_files(&mut parts.file_names, first);
-        let extensions = parts.tables.extensions.len();
-        forget_numbers(&mut parts.extension_numbers, extensions);
-        parts.links.truncate(first as usize);
+        forget(parts, first);
     }
     outcome
 }
@@ -127,11 +123,7 @@ fn cut_parts(parts: &mut PoolParts, mark: u32)
     ensures cut { holds_of parts.new ≡ cut_to (holds_of parts.old) mark }
 {
     cut(&mut parts.tables, mark);
-    forget_names(&mut parts.names, mark);
-    forget_files(&mut parts.file_names, mark);
-    let extensions = parts.tables.extensions.len();
-    forget_numbers(&mut parts.extension_numbers, extensions);
-    parts.links.truncate(mark as usize);
+    forget(parts, mark);
 }
 
 /// Takes the parts out of a pool, which is empty then. Takes no memory.

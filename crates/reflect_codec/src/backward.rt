@@ -9,7 +9,7 @@ ghost use Rattle.reflect_codec.specs.Held.{held};
 ghost use Rattle.reflect_codec.specs.Fields.{payload_field, number_field, text_field, texts_field, int32_field, int32s_field, packed_field, bool_field, record_field, records_field, options_field};
 
 use descriptor_records::Options;
-use reflect_wire::{WireError, WireKey, WireType};
+use reflect_wire::{WireError, WireKey, WireType, code_of_key, sign_extended};
 use std::alloc::{AllocError, Global};
 
 /// A record that is written.
@@ -26,7 +26,8 @@ pub trait WriteRecord {
 /// earlier.
 ///
 /// So the length of a record is known when it is written in front of the record, and nothing is
-/// measured twice.
+/// measured twice. Calls are refused for want of memory alone, and then it is not said what is
+/// held.
 #[derive(Drop)]
 pub struct Backward {
     /// The last byte first.
@@ -103,28 +104,21 @@ impl Backward {
     pub fn put_key(&mut self, key: WireKey) -> Result<(), AllocError>
         ensures { OnOk result (held self.new ≡ key_bytes key ++ held self.old) }
     {
-        let code = match key.wire {
-            WireType::Varint => 0,
-            WireType::SixtyFourBit => 1,
-            WireType::LengthDelimited => 2,
-            WireType::StartGroup => 3,
-            WireType::EndGroup => 4,
-            WireType::ThirtyTwoBit => 5,
-        };
-        self.put_varint(u64::from(key.number) * 8 + code)?;
-        Ok(())
+        self.put_varint(code_of_key(key))
     }
 
     /// Puts the key and the length before a payload, behind which `end` bytes were held.
-    pub fn put_length(&mut self, number: i32, end: usize) -> Result<(), AllocError>
+    pub fn put_length(&mut self, number: u32, end: usize) -> Result<(), AllocError>
         ensures { (payload behind : List ℕ) → held self.old ≡ payload ++ behind → length behind
             ≡ end
-            → OnOk result (held self.new ≡ payload_field (unsigned_abs number) payload ++ behind) }
+            → OnOk result (held self.new ≡ payload_field number payload ++ behind) }
     {
         let len = self.len().saturating_sub(end);
         self.put_varint(len as u64)?;
-        self.put_key(record_key(number, WireType::LengthDelimited))?;
-        Ok(())
+        self.put_key(WireKey {
+            number,
+            wire: WireType::LengthDelimited,
+        })
     }
 
     fn put_payload(&mut self, number: i32, payload: &[u8]) -> Result<(), AllocError>
@@ -133,10 +127,10 @@ impl Backward {
     {
         let end = self.len();
         self.put_bytes(payload)?;
-        self.put_length(number, end)?;
-        Ok(())
+        self.put_length(number.unsigned_abs(), end)
     }
 
+    /// Puts the record of a text, none where it is missing.
     pub fn put_text(&mut self, number: i32, text: &Option<String>) -> Result<(), AllocError>
         ensures { OnOk result (held self.new ≡ text_field (unsigned_abs number) text.now
             ++ held self.old) }
@@ -147,6 +141,7 @@ impl Backward {
         Ok(())
     }
 
+    /// Puts the records of texts, one for each.
     pub fn put_texts(&mut self, number: i32, texts: &[String]) -> Result<(), AllocError>
         ensures { OnOk result (held self.new ≡ texts_field (unsigned_abs number) texts.now
             ++ held self.old) }
@@ -168,6 +163,7 @@ impl Backward {
         Ok(())
     }
 
+    /// Puts the record of a number, none where it is missing.
     pub fn put_int32(&mut self, number: i32, n: Option<i32>) -> Result<(), AllocError>
         ensures { OnOk result (held self.new ≡ int32_field (unsigned_abs number) n
             ++ held self.old) }
@@ -178,6 +174,7 @@ impl Backward {
         Ok(())
     }
 
+    /// Puts the record of a truth value, none where it is missing.
     pub fn put_bool(&mut self, number: i32, truth: Option<bool>) -> Result<(), AllocError>
         ensures { OnOk result (held self.new ≡ bool_field (unsigned_abs number) truth
             ++ held self.old) }
@@ -223,20 +220,20 @@ impl Backward {
         }
         let end = self.len();
         self.put_varints(list)?;
-        self.put_length(number, end)?;
-        Ok(())
+        self.put_length(number.unsigned_abs(), end)
     }
 
+    /// Puts a record, with its key and its length in front.
     pub fn put_record<R: WriteRecord>(&mut self, number: i32, inner: &R) -> Result<(), AllocError>
         ensures { OnOk result (held self.new
             ≡ payload_field (unsigned_abs number) (R.bytes inner.now) ++ held self.old) }
     {
         let end = self.len();
         inner.put(self)?;
-        self.put_length(number, end)?;
-        Ok(())
+        self.put_length(number.unsigned_abs(), end)
     }
 
+    /// Puts a record, if there is one.
     pub fn put_optional<R: WriteRecord>(
         &mut self,
         number: i32,
@@ -251,6 +248,7 @@ impl Backward {
         Ok(())
     }
 
+    /// Puts the records of a list.
     pub fn put_records<R: WriteRecord>(&mut self, number: i32, list: &[R]) -> Result<(), AllocError>
         ensures { OnOk result (held self.new ≡ records_field R.bytes (unsigned_abs number) list.now
             ++ held self.old) }
@@ -291,11 +289,4 @@ fn record_key(number: i32, wire: WireType) -> WireKey
         number: number.unsigned_abs(),
         wire,
     }
-}
-
-/// The number that a signed one of 32 bits is written as: a negative one has the upper bits set.
-fn sign_extended(n: i32) -> u64
-    ensures { result ≡ cast_unsigned w64 n }
-{
-    i64::from(n).cast_unsigned()
 }

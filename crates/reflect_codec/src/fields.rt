@@ -9,7 +9,7 @@ ghost use Rattle.reflect_codec.specs.Reading.{Value, Field, ReadsMeant, ReadsMea
 
 use descriptor_records::DoubleValue;
 use reflect_wire::{
-    WireError, WireKey, WireType, delimited_at, fixed64_at, key_at, value_at, varint_at,
+    WireError, WireKey, WireType, delimited_at, fixed64_at, key_at, low_half, value_at, varint_at,
 };
 use std::alloc::Global;
 
@@ -312,7 +312,7 @@ impl<'b> RawValue<'b> {
 fn int32_of(n: u64) -> i32
     ensures { result ≡ int32_of n }
 {
-    ((n % (1 << 32)) as u32).cast_signed()
+    low_half(n).cast_signed()
 }
 
 /// The list with the number behind it that a value holds, or all those of a packed one.

@@ -1,4 +1,5 @@
-//! Message types and their ranges.
+//! Message types and their ranges. A message type holds others, so functions that call one another
+//! read and write it, in place of the traits for records.
 ghost use Rattle.std.specs.Prelude.{◌≡◌, ◌++◌, OnOk, unsigned_abs};
 ghost use Rattle.std.specs.List.{AllZip};
 ghost use Rattle.descriptor_records.specs.declared.message.DescriptorProto.TheViews.{out-DescriptorProto};
@@ -86,7 +87,7 @@ pub fn put_message_types(
     while let Some((last, front)) = left.split_last() {
         let end = out.len();
         put_message_type(last, out)?;
-        out.put_length(number, end)?;
+        out.put_length(number.unsigned_abs(), end)?;
         left = front;
     }
     Ok(())

@@ -44,8 +44,7 @@ pub trait TakeContents<'p> {
         ensures unknown { unknown_of (message self.new) ≡ unknown_of (message self.old) };
 
     /// Drops the records of numbers that the type does not declare, and gives copies of them in the
-    /// order of
-    /// `unknown_fields`. A refusal leaves the message.
+    /// order of `unknown_fields`. A refusal leaves the message.
     fn take_unknown_fields(&mut self) -> Result<Vec<UnknownField>, AllocError>
         ensures type_stays { (message self.new).descriptor ≡ (message self.old).descriptor }
         ensures given { IfOk result (λ records. map field_view records.items

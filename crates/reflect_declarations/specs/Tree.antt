@@ -1,5 +1,5 @@
 -- A message with the messages in it, as a tree.
-use Rattle.std.specs.Prelude.{ℕ, List, [], ◌∷◌, Option, Some, None, String, string_bytes}
+use Rattle.std.specs.Prelude.{List, [], ◌∷◌, Option, String}
 use Rattle.std.specs.declared.alloc.Global.{Global}
 use Rattle.descriptor_records.specs.declared.enums.EnumDescriptorProto.{EnumDescriptorProto}
 use Rattle.descriptor_records.specs.declared.field.FieldDescriptorProto.{FieldDescriptorProto}
@@ -11,11 +11,7 @@ use Rattle.descriptor_records.specs.declared.message.DescriptorProto.{Descriptor
 use Rattle.descriptor_records.specs.declared.message.DescriptorProto.TheOpen.{DescriptorProto-F}
 use Rattle.descriptor_records.specs.declared.message.DescriptorProto.TheFolds.{fold-DescriptorProto}
 use Rattle.descriptor_records.specs.declared.message.DescriptorProto.TheViews.{out-DescriptorProto}
-
--- what a record has of a text that may be missing
-abbrev pub text_of : Option (String Global) → List ℕ
-text_of None = []
-text_of (Some s) = string_bytes s
+pub use Rattle.descriptor_records.specs.Content.{text_of}
 
 -- a message's record, without the messages in it
 pub record MessageParts : Type 0 where

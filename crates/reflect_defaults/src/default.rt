@@ -95,12 +95,10 @@ fn unsigned_64(text: &str) -> Option<DefaultText>
 fn truth(text: &str) -> Option<DefaultText>
     ensures { SaysDefault types.Bool text.now result }
 {
-    if text == "true" {
-        Some(DefaultText::Bool(true))
-    } else if text == "false" {
-        Some(DefaultText::Bool(false))
-    } else {
-        None
+    match text {
+        "true" => Some(DefaultText::Bool(true)),
+        "false" => Some(DefaultText::Bool(false)),
+        _ => None,
     }
 }
 

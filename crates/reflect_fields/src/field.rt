@@ -2,7 +2,7 @@
 
 ghost use Rattle.std.specs.Prelude.{◌≡◌, false, IfOk, option_map, string_bytes, unwrap_or, not};
 ghost use Rattle.reflect_declarations.specs.Tree.{text_of as as_text};
-ghost use Rattle.reflect_tables.specs.Views.{field_of, kind_of, name_of};
+ghost use Rattle.reflect_tables.specs.Views.{field_of, kind_of};
 ghost use Rattle.reflect_fields.specs.Fields.{label_of, scalar_type, is_packable as may_pack, is_packed as packs, has_presence, is_number, natural, IsField, IsExtension};
 ghost use Rattle.descriptor_records.specs.FieldNumbers.{type_number};
 ghost use Rattle.descriptor_records.specs.declared.field.FieldType.TheVariants as types;
@@ -40,12 +40,9 @@ pub fn scalar_kind(field_type: FieldType) -> Option<StoredKind>
 fn cardinality_of(label: Option<i32>) -> Cardinality
     ensures { result ≡ label_of label }
 {
-    let Some(number) = label else {
-        return Cardinality::Optional;
-    };
-    if number == Label::Required.number() {
+    if label == Some(Label::Required.number()) {
         Cardinality::Required
-    } else if number == Label::Repeated.number() {
+    } else if label == Some(Label::Repeated.number()) {
         Cardinality::Repeated
     } else {
         Cardinality::Optional
@@ -98,22 +95,13 @@ fn supports_presence(
 }
 
 /// A copy of the text, empty where it is missing.
-pub fn text_of(alloc: Global, text: &Option<String>) -> Result<String, AllocError>
+pub fn text_copy(alloc: Global, text: &Option<String>) -> Result<String, AllocError>
     ensures { IfOk result (λ s. string_bytes s ≡ as_text text.now) }
 {
     match text {
         Some(text) => text.clone(),
         None => Ok(String::new(alloc)),
     }
-}
-
-fn json_name_of(field: &FieldDescriptorProto) -> Result<Option<String>, AllocError>
-    ensures { IfOk result (λ name. name_of name ≡ name_of field.now.json_name) }
-{
-    Ok(match &field.json_name {
-        Some(name) => Some(name.clone()?),
-        None => None,
-    })
 }
 
 /// A number, unless it is negative.
@@ -127,10 +115,7 @@ fn natural(number: Option<i32>) -> Option<u32>
 fn is_group(field: &FieldDescriptorProto) -> bool
     ensures { result ≡ is_number (type_number types.Group) field.now.field_type }
 {
-    match field.field_type {
-        Some(number) => number == FieldType::Group.number(),
-        None => false,
-    }
+    field.field_type == Some(FieldType::Group.number())
 }
 
 /// The entry of a field of a kind in a file of a syntax. A number that no field may have is 0.
@@ -154,9 +139,9 @@ pub fn field_entry(
     let cardinality = cardinality_of(field.label);
     Ok(StoredField {
         path: Vec::from_slice(alloc, path)?,
-        name: text_of(alloc, &field.name)?,
+        name: text_copy(alloc, &field.name)?,
         full_name: String::from_str(alloc, full_name)?,
-        json_name: json_name_of(field)?,
+        json_name: field.json_name.clone()?,
         number: natural(field.number).unwrap_or(0),
         kind,
         cardinality,

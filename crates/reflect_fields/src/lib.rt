@@ -4,4 +4,4 @@
 mod default;
 mod field;
 
-pub use field::{extension_entry, field_entry, scalar_kind, text_of};
+pub use field::{extension_entry, field_entry, scalar_kind, text_copy};

@@ -25,7 +25,7 @@ ghost use Rattle.text_syntax.specs.Syntax.{at_end, at_sign, field_at, fields_at,
 use crate::fault::{already_set, oneof_already_set, unknown_message};
 use crate::scalar::scalar_value;
 use crate::target::Target;
-use protox_lex::MAX_BRACES;
+use protox_lex::{MAX_BRACES, across};
 use reflect_any::any_fields;
 use reflect_encode::EncodeMessage;
 use reflect_message::{DynamicMessage, Value};
@@ -34,7 +34,7 @@ use reflect_wire::WireError;
 use std::alloc::Global;
 use text_error::{ParseError, ParseErrorKind};
 use text_lex::Span;
-use text_scalars::{AnyName, Brace, Name, Tokens, through};
+use text_scalars::{AnyName, Brace, Name, Tokens};
 
 /// Reads a text into a message.
 #[derive(Drop)]
@@ -412,7 +412,7 @@ fn message_value<'p>(
     }
     let mut message = DynamicMessage::new(tokens.alloc, descriptor);
     let close = fields_to_brace(tokens, &mut message, closing, braces - 1)?;
-    Ok((message, through(open, close)))
+    Ok((message, across(open, close)))
 }
 
 /// Fields up to the closing brace, and where that stands.

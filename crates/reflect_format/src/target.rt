@@ -81,6 +81,7 @@ impl<'p> Target<'p> {
         Ok(Target::Extension(extension))
     }
 
+    /// What it holds; of a map that is the type of its entries.
     pub fn kind(&self) -> Kind<'p>
         ensures { IsKind (target_pool self.now) result (target_type self.now).kind }
     {

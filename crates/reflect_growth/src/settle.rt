@@ -258,8 +258,8 @@ fn settle_options(files: &mut Vec<StoredFile>, file: usize, path: &[i32], option
         ≡ with_at file (file_put path.now (options_view options))
         (map stored_view files.old.items) }
 {
-    if file < files.len() {
-        settle_file(&mut files[file].record, path, options);
+    if let Some(stored) = files.get_mut(file) {
+        settle_file(&mut stored.record, path, options);
     }
 }
 
@@ -268,8 +268,8 @@ fn settle_location(files: &mut Vec<StoredFile>, file: usize, place: usize, path:
     ensures put { map stored_view files.new.items
         ≡ with_at file (path_put place path.items) (map stored_view files.old.items) }
 {
-    if file < files.len() {
-        move_location(&mut files[file].record, place, path);
+    if let Some(stored) = files.get_mut(file) {
+        move_location(&mut stored.record, place, path);
     }
 }
 

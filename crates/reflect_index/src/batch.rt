@@ -68,9 +68,7 @@ fn stored_files(
     let mut stored = Vec::with_capacity(alloc, records.len())?;
     let mut rest = declared.into_iter();
     for record in records {
-        let Some(declared) = rest.next() else {
-            return Err(VisitError::TooMany);
-        };
+        let declared = rest.next().ok_or(VisitError::TooMany)?;
         stored.push(StoredFile { record, declared })?;
     }
     Ok(stored)

@@ -101,8 +101,6 @@ pub fn local_place(index: u32, before: u32) -> Result<usize, VisitError>
     ensures place { IfOk result (λ place. place ≡ index - before) }
     ensures sum { IfOk result (λ place. before + place ≡ index) }
 {
-    match index.checked_sub(before) {
-        Some(place) => Ok(place as usize),
-        None => Err(VisitError::TooMany),
-    }
+    let place = index.checked_sub(before).ok_or(VisitError::TooMany)?;
+    Ok(place as usize)
 }

@@ -16,7 +16,7 @@ use descriptor_records::{
     DescriptorProto, EnumDescriptorProto, EnumValueDescriptorProto, FieldDescriptorProto,
     FileDescriptorProto, MethodDescriptorProto, OneofDescriptorProto, ServiceDescriptorProto,
 };
-use reflect_fields::{extension_entry, field_entry, text_of};
+use reflect_fields::{extension_entry, field_entry, text_copy};
 use reflect_names::{Offsets, Reference, VisitError, Visitor};
 use reflect_references::References;
 use reflect_scope::{
@@ -243,7 +243,7 @@ impl<'a> Visitor for IndexVisitor<'a> {
             file,
             parent,
             path: Vec::from_slice(alloc, path)?,
-            name: text_of(alloc, &message.name)?,
+            name: text_copy(alloc, &message.name)?,
             full_name: String::from_str(alloc, full_name)?,
             is_entry: says_map_entry(message),
             fields: Vec::new(alloc),
@@ -288,7 +288,7 @@ impl<'a> Visitor for IndexVisitor<'a> {
     ) -> Result<(), VisitError> {
         let entry = StoredOneof {
             path: Vec::from_slice(alloc, path)?,
-            name: text_of(alloc, &oneof.name)?,
+            name: text_copy(alloc, &oneof.name)?,
             full_name: String::from_str(alloc, full_name)?,
             fields: Vec::new(alloc),
             is_synthetic: false,
@@ -325,7 +325,7 @@ impl<'a> Visitor for IndexVisitor<'a> {
             file,
             parent,
             path: Vec::from_slice(alloc, path)?,
-            name: text_of(alloc, &enumeration.name)?,
+            name: text_copy(alloc, &enumeration.name)?,
             full_name: String::from_str(alloc, full_name)?,
             values: Vec::new(alloc),
         })?;
@@ -344,7 +344,7 @@ impl<'a> Visitor for IndexVisitor<'a> {
     ) -> Result<(), VisitError> {
         let entry = StoredValue {
             path: Vec::from_slice(alloc, path)?,
-            name: text_of(alloc, &value.name)?,
+            name: text_copy(alloc, &value.name)?,
             full_name: String::from_str(alloc, full_name)?,
             number: value.number.unwrap_or(0),
         };
@@ -369,7 +369,7 @@ impl<'a> Visitor for IndexVisitor<'a> {
         self.drafts.services.push(StoredService {
             file,
             path: Vec::from_slice(alloc, path)?,
-            name: text_of(alloc, &service.name)?,
+            name: text_copy(alloc, &service.name)?,
             full_name: String::from_str(alloc, full_name)?,
             methods: Vec::new(alloc),
         })?;
@@ -390,7 +390,7 @@ impl<'a> Visitor for IndexVisitor<'a> {
         let output = message_meant(self.references.meaning_of(&method.output_type))?;
         let entry = StoredMethod {
             path: Vec::from_slice(alloc, path)?,
-            name: text_of(alloc, &method.name)?,
+            name: text_copy(alloc, &method.name)?,
             full_name: String::from_str(alloc, full_name)?,
             input,
             output,

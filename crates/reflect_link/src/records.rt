@@ -88,6 +88,7 @@ pub fn message_record<'a>(
     message_from(message, rest)
 }
 
+/// The field at a path.
 pub fn field_record<'a>(
     file: &'a FileDescriptorProto,
     path: &[i32],
@@ -99,6 +100,7 @@ pub fn field_record<'a>(
     entry(message.field.as_slice(), tag::message::FIELD, step)
 }
 
+/// The oneof at a path.
 pub fn oneof_record<'a>(
     file: &'a FileDescriptorProto,
     path: &[i32],
@@ -114,6 +116,7 @@ pub fn oneof_record<'a>(
     )
 }
 
+/// The enum at a path.
 pub fn enum_record<'a>(
     file: &'a FileDescriptorProto,
     path: &[i32],
@@ -128,6 +131,7 @@ pub fn enum_record<'a>(
     entry(message.enum_type.as_slice(), tag::message::ENUM_TYPE, step)
 }
 
+/// The enum's value at a path.
 pub fn value_record<'a>(
     file: &'a FileDescriptorProto,
     path: &[i32],
@@ -139,6 +143,7 @@ pub fn value_record<'a>(
     entry(enumeration.value.as_slice(), tag::enumeration::VALUE, step)
 }
 
+/// The extension at a path.
 pub fn extension_record<'a>(
     file: &'a FileDescriptorProto,
     path: &[i32],
@@ -153,6 +158,7 @@ pub fn extension_record<'a>(
     entry(message.extension.as_slice(), tag::message::EXTENSION, step)
 }
 
+/// The service at a path.
 pub fn service_record<'a>(
     file: &'a FileDescriptorProto,
     path: &[i32],
@@ -167,6 +173,7 @@ pub fn service_record<'a>(
     }
 }
 
+/// The method at a path.
 pub fn method_record<'a>(
     file: &'a FileDescriptorProto,
     path: &[i32],

@@ -84,6 +84,7 @@ impl<'p> ServiceDescriptor<'p> {
         &tables.services[self.index as usize]
     }
 
+    /// The name, as it is declared.
     pub fn name(&self) -> &'p str
         ensures { result.now ≡ (service_at self.now.pool.now self.now.index).name }
     {
@@ -283,6 +284,7 @@ impl<'p> MethodDescriptor<'p> {
         &tables.services[self.service.index as usize].methods[self.index as usize]
     }
 
+    /// The name, as it is declared.
     pub fn name(&self) -> &'p str
         ensures { result.now ≡ (type_of_method self.now.service.pool.now self.now.service.index
             self.now.index).name }

@@ -34,8 +34,8 @@ impl<'p> DynamicMessage<'p> {
         content::is_set(self.field_value(field.number()), field)
     }
 
-    /// What the field, one of the message's type, holds, or its default, which may take memory; what
-    /// is held takes none.
+    /// What the field, one of the message's type, holds, or its default, which may take memory;
+    /// what is held takes none.
     pub fn get_field(&self, field: &FieldDescriptor<'p>) -> Result<FieldRef<'_, 'p>, AllocError>
         requires { Declares self.now.descriptor field.now }
         ensures shows { IfOk result (Shows (field_pool field.now) (field_type field.now)

@@ -8,3 +8,4 @@ pub mod ReferenceRuns
 pub mod FileRuns
 pub mod ImportRuns
 pub mod Lines
+pub mod Numbered

@@ -1,4 +1,5 @@
 -- Faults by their data and their places.
+use Rattle.std.specs.declared.ops.Range.{Range}
 use Rattle.std.specs.Prelude.{◌≡◌, ℕ, ℤ, ◌-◌, List, [], ◌++◌, map, cond, nat_le, Option, Some, None, slice_get, string_bytes}
 use Rattle.descriptor_records.specs.declared.file.FileDescriptorProto.{FileDescriptorProto}
 use Rattle.reflect_declarations.specs.Tree.{text_of}
@@ -8,12 +9,16 @@ use Rattle.reflect_names.specs.declared.label.SourceSpan.{SourceSpan}
 use Rattle.reflect_names.specs.declared.error.DescriptorErrorKind.{DescriptorErrorKind}
 use Rattle.reflect_names.specs.declared.error.DescriptorErrorKind.TheVariants as kind
 use Rattle.reflect_names.specs.declared.faults.Faults.{Faults}
+use Rattle.reflect_walk.specs.declared.visit_error.VisitError.{VisitError}
+use Rattle.reflect_walk.specs.declared.visit_error.VisitError.TheVariants as walks
 
--- a path in the file of a name, and where it stands in its source, if that is told
+-- a path in the file of a name, where it stands in its source, if that is told, and the bytes
+-- there, once they were looked for
 pub record Place : Type 0 where
   pub file : List ℕ
   pub path : List ℤ
   pub span : Option SourceSpan
+  pub bytes : Option (Range ℕ)
 
 pub data Fault : Type 0 where
   duplicate_file : List ℕ → Place → Fault
@@ -40,7 +45,8 @@ pub data Fault : Type 0 where
   another : Fault
 
 abbrev pub place_of : Label → Place
-place_of l = record { file = string_bytes l.file; path = l.path.items; span = l.span }
+place_of l =
+    record { file = string_bytes l.file; path = l.path.items; span = l.span; bytes = l.bytes }
 
 abbrev pub fault_view : DescriptorErrorKind → Fault
 fault_view (kind.DuplicateFileName name found) = duplicate_file (string_bytes name) (place_of found)
@@ -72,6 +78,11 @@ fault_view (kind.BadMapEntry name found) = bad_map_entry (string_bytes name) (pl
 fault_view (kind.DuplicateExtensionNumber number message found) =
     duplicate_extension number (string_bytes message) (place_of found)
 fault_view _ = another
+
+-- what is told of a walk that ended early
+abbrev pub of_walk : VisitError → DescriptorErrorKind
+of_walk walks.TooMany = kind.TooMany
+of_walk walks.Memory = kind.Memory
 
 -- where a fault stands, if it is one of a file
 abbrev pub place_of_fault : Fault → Option Place
@@ -106,7 +117,7 @@ abbrev pub name_at : List FileDescriptorProto → ℕ → ℕ → List ℕ
 name_at files first i = cond (nat_le first i)
     (elim (slice_get files (i - first)) [ None ↦ [] | Some f ↦ text_of f.name ]) []
 
--- the places of their records
+-- the places of their records, of which no one has looked for the bytes
 abbrev pub batch_places : List FileDescriptorProto → ℕ → ℕ → List ℤ → Place
 batch_places files first i path =
     record {
@@ -114,6 +125,7 @@ batch_places files first i path =
       path = path;
       span =
           span_among (locations_at files first i) path;
+      bytes = None;
     }
 
 abbrev pub file_name : Faults → ℕ → List ℕ

@@ -1,7 +1,8 @@
 -- Where the lines and columns of a span stand in its source, in bytes (descriptor.proto,
 -- SourceCodeInfo: both count from 0).
 use Rattle.std.specs.declared.ops.Range.{Range}
-use Rattle.std.specs.Prelude.{ℕ, zero, suc, ◌+◌, ◌==◌, cond, nat_le, List, [], ◌∷◌, length, Option, None, Some, option_map}
+use Rattle.std.specs.Prelude.{ℕ, zero, suc, ◌+◌, ◌==◌, cond, nat_le, drop, List, [], ◌∷◌, Option, None, Some, option_map}
+use Rattle.std.specs.List.{position_or_len}
 use Rattle.std.specs.Option.{option_and_then}
 use Rattle.reflect_names.specs.declared.label.SourceSpan.{SourceSpan}
 
@@ -12,13 +13,16 @@ first_of_line source zero = Some 0
 first_of_line [] (suc n) = None
 first_of_line (b ∷ rest) (suc n) = option_map suc (first_of_line rest (cond (b == 10) n (suc n)))
 
-abbrev pub up_to : ℕ → ℕ → Option ℕ
-up_to limit n = cond (nat_le n limit) (Some n) None
+-- how many bytes a line has, up to its line end or the end of the source
+abbrev pub len_of_line : List ℕ → ℕ
+len_of_line rest = position_or_len (λ b. b == 10) rest
 
--- how many stand before a column of a line, which is no column past the end of the source
+-- how many stand before a column of a line, which has none past its end
 abbrev pub offset_at : List ℕ → ℕ → ℕ → Option ℕ
 offset_at source line column =
-    option_and_then (λ n. up_to (length source) (n + column)) (first_of_line source line)
+    option_and_then
+    (λ n. cond (nat_le column (len_of_line (drop n source))) (Some (n + column)) None)
+    (first_of_line source line)
 
 abbrev pub range : ℕ → ℕ → Option (Range ℕ)
 range start end = cond (nat_le start end) (Some (record { start = start; end = end })) None

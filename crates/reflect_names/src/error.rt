@@ -9,9 +9,9 @@ use std::fmt;
 
 impl From<VisitError> for DescriptorErrorKind {
     ghost use Rattle.std.specs.Prelude.{◌≡◌};
-    ghost use Rattle.reflect_names.specs.Faults.{fault_view, another};
+    ghost use Rattle.reflect_names.specs.Faults.{fault_view, of_walk, another};
 
-    ghost from_gives = { λ error kind. fault_view kind ≡ another };
+    ghost from_gives = { λ error kind. (kind ≡ of_walk error) × (fault_view kind ≡ another) };
 
     fn from(error: VisitError) -> Self {
         match error {
@@ -22,6 +22,11 @@ impl From<VisitError> for DescriptorErrorKind {
 }
 
 impl From<AllocError> for DescriptorErrorKind {
+    ghost use Rattle.std.specs.Prelude.{◌≡◌};
+    ghost use Rattle.reflect_names.specs.declared.error.DescriptorErrorKind.{DescriptorErrorKind};
+
+    ghost from_gives = { λ _ kind. kind ≡ DescriptorErrorKind.Memory };
+
     fn from(_: AllocError) -> Self {
         DescriptorErrorKind::Memory
     }

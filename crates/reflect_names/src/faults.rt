@@ -1,12 +1,11 @@
 ghost use Rattle.std.specs.Prelude.{◌≡◌, ◌++◌, ◌∷◌, [], ◌↔◌, IsTrue, IfOk, OnOk, IfSome, map, Option, Some, None, pos};
-ghost use Rattle.reflect_declarations.specs.Tree.{text_of as content_of};
 ghost use Rattle.std.proofs.Props.{props};
 ghost use Rattle.reflect_names.specs.Spans.{locations, locations_at, span_among};
 
 use crate::error::DescriptorErrorKind;
 use crate::label::{Label, SourceSpan};
 use crate::spans::FileSpans;
-use descriptor_records::{FileDescriptorProto, Location, join_path};
+use descriptor_records::{FileDescriptorProto, Location, join_path, text_of};
 use reflect_scope::FileIndex;
 use std::alloc::{AllocError, Global};
 
@@ -20,16 +19,6 @@ pub struct Faults<'a> {
     spans: Option<(FileIndex, FileSpans<'a>)>,
     ghost told: { IfSome spans (λ s. s.1.locations.now
         ≡ locations_at files.now first s.0) } by { Prim.hlevel props },
-}
-
-/// The text, empty where it is missing.
-pub fn text_of(text: &Option<String>) -> &str
-    ensures { result.now ≡ content_of text.now }
-{
-    match text {
-        Some(text) => text.as_str(),
-        None => "",
-    }
 }
 
 /// The locations of a file, none where it tells none.
@@ -117,7 +106,6 @@ impl<'a> Faults<'a> {
         path: &[i32],
     ) -> Result<Label, AllocError>
         ensures place { IfOk result (λ l. place_of l ≡ place_at self.old file path.now) }
-        ensures bytes { IfOk result (λ l. l.bytes ≡ None) }
         ensures same { Adds self.old self.new [] }
     {
         let path = Vec::from_slice(alloc, path)?;
@@ -135,7 +123,6 @@ impl<'a> Faults<'a> {
     ) -> Result<Label, AllocError>
         ensures place { IfOk result (λ l. place_of l
             ≡ place_at self.old file (path.now ++ (tag ∷ []))) }
-        ensures bytes { IfOk result (λ l. l.bytes ≡ None) }
         ensures same { Adds self.old self.new [] }
     {
         let path = join_path(alloc, path, &[tag])?;

@@ -1,7 +1,7 @@
 ghost use Rattle.std.specs.Prelude.{◌≡◌, OnOk, IfOk, pos, [], ◌∷◌, ◌++◌};
 ghost use Rattle.std.specs.List.{cons_option, filter_map};
 ghost use Rattle.std.specs.BTreeMap.{get_by_text};
-ghost use Rattle.reflect_declarations.specs.Declarations.{each, entry};
+ghost use Rattle.reflect_declarations.specs.Declarations.{each};
 ghost use Rattle.reflect_names.specs.Faults.{Adds, place_at, duplicate_file};
 ghost use Rattle.reflect_scope.specs.FileIndexes.{indexes_of, KeepsIndexes};
 ghost use Rattle.reflect_names.specs.FileNames.{file_faults, with_file, with_files, files_faults};
@@ -12,9 +12,9 @@ ghost use Rattle.reflect_scope.specs.FileIndexes.{is_index as is_index_of};
 
 use crate::error::DescriptorErrorKind;
 use crate::faults::Faults;
-use descriptor_records::{FileDescriptorProto, join_path, tag};
+use descriptor_records::{FileDescriptorProto, tag};
 use reflect_scope::{FileIndex, Links};
-use reflect_walk::VisitError;
+use reflect_walk::{VisitError, entry_path};
 use std::alloc::{AllocError, Global};
 use std::collections::BTreeMap;
 
@@ -93,17 +93,6 @@ pub fn name_files(
     Ok(())
 }
 
-/// The path of a list's entry: the record at `path`, its field of the number `tag`, and there the
-/// place `at`. `TooMany` is a place past `i32::MAX`.
-pub fn entry_path(alloc: Global, path: &[i32], tag: i32, at: usize) -> Result<Vec<i32>, VisitError>
-    ensures { IfOk result (λ place. place.items ≡ entry path.now tag at) }
-{
-    if at > 0x7fff_ffff {
-        return Err(VisitError::TooMany);
-    }
-    Ok(join_path(alloc, path, &[tag, at as i32])?)
-}
-
 fn require_import(
     alloc: Global,
     file_names: &BTreeMap<String, FileIndex>,
@@ -126,11 +115,12 @@ fn require_import(
     Ok(())
 }
 
-fn is_index(import: i32, count: usize) -> bool
-    ensures { result ≡ is_index_of import count }
+/// Whether the number is a place in a list of so many.
+pub fn is_index(number: i32, count: usize) -> bool
+    ensures { result ≡ is_index_of number count }
 {
-    match usize::try_from(import) {
-        Ok(import) => import < count,
+    match usize::try_from(number) {
+        Ok(place) => place < count,
         Err(_) => false,
     }
 }

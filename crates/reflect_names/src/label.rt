@@ -1,5 +1,5 @@
-ghost use Rattle.reflect_names.specs.SourceBytes.{bytes_at, first_of_line, offset_at};
-ghost use Rattle.std.specs.Prelude.{◌≡◌, IfOk, None, option_map};
+ghost use Rattle.reflect_names.specs.SourceBytes.{bytes_at, first_of_line, len_of_line, offset_at};
+ghost use Rattle.std.specs.Prelude.{◌≡◌, ◌+◌, ◌≤◌, IfOk, IfSome, None, drop, length, option_map};
 
 use std::alloc::{AllocError, Global};
 use std::ops::Range;
@@ -69,8 +69,7 @@ impl Label {
         span: Option<SourceSpan>,
     ) -> Result<Label, AllocError>
         ensures place { IfOk result (λ l. place_of l
-            ≡ record { file = file.now; path = path.items; span = span }) }
-        ensures bytes { IfOk result (λ l. l.bytes ≡ None) }
+            ≡ record { file = file.now; path = path.items; span = span; bytes = None }) }
     {
         Ok(Label {
             file: String::from_str(alloc, file)?,
@@ -111,7 +110,7 @@ impl Label {
     /// The bytes of the source at which the place was found by the last call of `resolve_span` for
     /// its file.
     pub fn span(&self) -> Option<Range<usize>>
-        ensures { result ≡ self.now.bytes }
+        ensures { result ≡ (place_of self.now).bytes }
     {
         match &self.bytes {
             Some(bytes) => Some(bytes.start..bytes.end),
@@ -158,21 +157,38 @@ fn bytes_of(span: SourceSpan, source: &str) -> Option<Range<usize>>
     if start <= end { Some(start..end) } else { None }
 }
 
-/// The offset of a line's column in a source.
+/// The offset of a line's column in a source. A line has one column more than it has bytes, behind
+/// the last of them.
 fn offset_of(source: &str, line: usize, column: usize) -> Option<usize>
     ensures { result ≡ offset_at source.now line column }
 {
-    let offset = line_start(source, line)?.checked_add(column)?;
-    if offset <= source.len() {
-        Some(offset)
+    let start = line_start(source, line)?;
+    if column <= line_len(source, start) {
+        Some(start + column)
     } else {
         None
     }
 }
 
+/// How many bytes the line has that begins at an offset, without its line end.
+fn line_len(source: &str, start: usize) -> usize
+    requires { start ≤ length source.now }
+    ensures within { start + result ≤ length source.now }
+    ensures len { result ≡ len_of_line (drop start source.now) }
+{
+    let rest = &source.as_bytes()[start..];
+    'bytes: for (index, byte) in rest.iter().enumerate() {
+        if *byte == b'\n' {
+            return index;
+        }
+    }
+    rest.len()
+}
+
 /// The offset of a line's first byte in a source.
 fn line_start(source: &str, line: usize) -> Option<usize>
-    ensures { result ≡ first_of_line source.now line }
+    ensures start { result ≡ first_of_line source.now line }
+    ensures within { IfSome result (λ n. n ≤ length source.now) }
 {
     if line == 0 {
         return Some(0);

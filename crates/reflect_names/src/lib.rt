@@ -14,12 +14,12 @@ mod spans;
 
 pub use error::DescriptorErrorKind;
 pub use faults::Faults;
-pub use imports::{entry_path, links_of, name_files};
+pub use imports::{is_index, links_of, name_files};
 pub use label::{Label, SourceSpan};
 pub use name_visitor::NameVisitor;
 pub use reflect_scope::{
     Definition, DefinitionKind, Links, ResolveNameError, ResolveNameFilter, Resolved, SeenFiles,
     resolve_name,
 };
-pub use reflect_walk::{Offsets, VisitError, Visitor, visit, visit_all};
+pub use reflect_walk::{Offsets, VisitError, Visitor, entry_path, visit, visit_all};
 pub use resolve_visitor::{Reference, ResolveVisitor};

@@ -1,7 +1,7 @@
 ghost use Rattle.std.specs.Prelude.{◌≡◌, OnOk, IfOk, length};
 ghost use Rattle.std.specs.BTreeMap.{get_by_text};
 
-use crate::faults::{Faults, text_of};
+use crate::faults::Faults;
 use crate::imports::check_imports;
 use crate::names::{check_syntax, declare_named, declare_package};
 use crate::required::{
@@ -10,6 +10,7 @@ use crate::required::{
 use descriptor_records::{
     DescriptorProto, EnumDescriptorProto, EnumValueDescriptorProto, FieldDescriptorProto,
     FileDescriptorProto, MethodDescriptorProto, OneofDescriptorProto, ServiceDescriptorProto, tag,
+    text_of,
 };
 use name_table::NameTable;
 use reflect_scope::{

@@ -7,13 +7,12 @@ ghost use Rattle.std.specs.Prelude.{◌++◌};
 
 use crate::error::DescriptorErrorKind;
 use crate::faults::Faults;
-use crate::imports::entry_path;
 use descriptor_records::{
-    DescriptorProto, EnumReservedRange, ExtensionRange, FieldDescriptorProto,
+    DescriptorProto, EnumReservedRange, ExtensionRange, FieldDescriptorProto, FieldType,
     MethodDescriptorProto, ReservedRange, tag,
 };
 use reflect_scope::FileIndex;
-use reflect_walk::VisitError;
+use reflect_walk::{VisitError, entry_path};
 use std::alloc::{AllocError, Global};
 
 /// What a record lacks is a fault at the place where it would be.
@@ -36,19 +35,16 @@ pub fn require(
     faults.push(DescriptorErrorKind::MissingRequiredField { field, found })
 }
 
-/// The numbers of the types that have names of their own.
-pub const GROUP: i32 = 10;
-
-pub const MESSAGE: i32 = 11;
-
-pub const ENUM: i32 = 14;
-
 /// Whether the number stands for a type that has a name of its own: a group, a message or an enum.
 fn is_named_type(field_type: Option<i32>) -> bool
     ensures { result ≡ names_a_type field_type }
 {
     match field_type {
-        Some(field_type) => field_type == GROUP || field_type == MESSAGE || field_type == ENUM,
+        Some(field_type) => {
+            field_type == FieldType::Group.number()
+                || field_type == FieldType::Message.number()
+                || field_type == FieldType::Enum.number()
+        }
         None => false,
     }
 }

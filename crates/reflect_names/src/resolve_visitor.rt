@@ -3,10 +3,10 @@ ghost use Rattle.reflect_names.specs.References.{is_in as is_number_in, is_type_
 
 use crate::error::DescriptorErrorKind;
 use crate::faults::Faults;
-use crate::required::{ENUM, GROUP, MESSAGE};
 use descriptor_records::{
     DescriptorProto, EnumDescriptorProto, EnumValueDescriptorProto, FieldDescriptorProto,
-    FileDescriptorProto, MethodDescriptorProto, OneofDescriptorProto, ServiceDescriptorProto, tag,
+    FieldType, FileDescriptorProto, Label, MethodDescriptorProto, OneofDescriptorProto,
+    ServiceDescriptorProto, tag,
 };
 use name_table::NameTable;
 use reflect_scope::{
@@ -40,17 +40,18 @@ pub struct ResolveVisitor<'a> {
     seen: SeenFiles,
 }
 
-const LAST_TYPE: u32 = 18;
-
-const LAST_LABEL: u32 = 3;
-
-fn is_in(number: i32, last: u32) -> bool
-    ensures { result ≡ is_number_in number last }
+/// Whether a label has the number.
+fn is_label(number: i32) -> bool
+    ensures { result ≡ is_number_in number 3 }
 {
-    match u32::try_from(number) {
-        Ok(number) => 1 <= number && number <= last,
-        Err(_) => false,
-    }
+    Label::from_number(number).is_some()
+}
+
+/// Whether a type has the number.
+fn is_type(number: i32) -> bool
+    ensures { result ≡ is_number_in number 18 }
+{
+    FieldType::from_number(number).is_some()
 }
 
 /// Whether a type of this number may have a name that means this kind.
@@ -58,8 +59,10 @@ fn is_type_of(field_type: i32, kind: DefinitionKind) -> bool
     ensures { result ≡ is_type_number_of field_type kind }
 {
     match kind {
-        DefinitionKind::Message(_) => field_type == GROUP || field_type == MESSAGE,
-        DefinitionKind::Enum(_) => field_type == ENUM,
+        DefinitionKind::Message(_) => {
+            field_type == FieldType::Group.number() || field_type == FieldType::Message.number()
+        }
+        DefinitionKind::Enum(_) => field_type == FieldType::Enum.number(),
         _ => false,
     }
 }
@@ -70,7 +73,7 @@ fn suits(field_type: Option<i32>, kind: DefinitionKind) -> bool
     ensures { result ≡ is_suited field_type kind }
 {
     match field_type {
-        Some(field_type) => !is_in(field_type, LAST_TYPE) || is_type_of(field_type, kind),
+        Some(field_type) => !is_type(field_type) || is_type_of(field_type, kind),
         None => true,
     }
 }
@@ -257,7 +260,7 @@ impl<'a> ResolveVisitor<'a> {
         let Some(label) = label else {
             return Ok(());
         };
-        if is_in(label, LAST_LABEL) {
+        if is_label(label) {
             return Ok(());
         }
         let name = format!(in alloc; "{label}")?;
@@ -286,7 +289,7 @@ impl<'a> ResolveVisitor<'a> {
         let Some(field_type) = field_type else {
             return Ok(());
         };
-        if is_in(field_type, LAST_TYPE) {
+        if is_type(field_type) {
             return Ok(());
         }
         let name = format!(in alloc; "{field_type}")?;

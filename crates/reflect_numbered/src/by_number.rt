@@ -24,8 +24,8 @@ pub trait FieldsByNumber<'p> {
         ensures held { IsTrue result → IsSome (value_at (fields_of (message self.now)) number) }
         ensures tells { TellsMeant (HasNumber number) (message self.now) result };
 
-    /// What the field of the number holds, or its default, which may take memory; `None` where there
-    /// is no such field.
+    /// What the field of the number holds, or its default, which may take memory; `None` where
+    /// there is no such field.
     fn get_field_by_number(&self, number: u32) -> Result<Option<FieldRef<'_, 'p>>, AllocError>
         ensures lends { IfOk result (Lends (HasNumber number) (message self.now)) }
         ensures unset { OnErr result (HasNothing (HasNumber number) (message self.now)) };

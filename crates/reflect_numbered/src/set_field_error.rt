@@ -23,6 +23,7 @@ use thiserror::Error;
 /// Why a field was not set.
 #[derive(Drop, Error)]
 pub enum SetFieldError<'p> {
+    /// The message's type has no such field, or one that messages do not hold.
     #[error("field not found")]
     NotFound,
     /// The field does not take the value; both are handed back.
@@ -31,6 +32,7 @@ pub enum SetFieldError<'p> {
         field: FieldDescriptor<'p>,
         value: Value<'p>,
     },
+    /// Want of memory.
     #[error("out of memory")]
     Memory,
 }

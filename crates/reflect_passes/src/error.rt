@@ -128,10 +128,12 @@ impl DescriptorError {
 
     /// Finds the bytes of faults in `source`, the text of the file that the first fault is in: of
     /// this one and all others in this file. A fault has none afterwards if its place is not known,
-    /// or no place of the text. Takes no memory.
+    /// or no place of the text. Takes no memory; each fault is looked for from the front of the
+    /// text, so that the time is that of as many walks through it.
     pub fn with_source_code(mut self, source: &str) -> DescriptorError
         ensures { kinds_of result ≡ sourced source.now self }
     {
+        // One loan, through which one field is changed while another is read.
         let error = &mut self;
         if let Some(label) = error.first.label() {
             locate_others(&mut error.others, label.file(), source);

@@ -59,10 +59,8 @@ impl<'a> Types for LinkedTypes<'a> {
     }
 
     fn is_map_entry(&self, message: MessageIndex) -> bool {
-        match self.message(message) {
-            Some(message) => message.is_entry,
-            None => false,
-        }
+        self.message(message)
+            .is_some_and(|message| message.is_entry)
     }
 
     fn message_name(&self, message: MessageIndex) -> &str {

@@ -2,7 +2,7 @@
 
 ghost use Rattle.std.specs.Prelude.{◌≡◌, ◌∷◌, [], length, map, OnOk, IfOk, IfErr};
 ghost use Rattle.reflect_declarations.specs.Batches.{batch_declarations};
-ghost use Rattle.reflect_names.specs.Faults.{fault_view, list_of, another, batch_places};
+ghost use Rattle.reflect_names.specs.Faults.{fault_view, list_of, of_walk, another, batch_places};
 ghost use Rattle.reflect_scope.specs.FileIndexes.{indexes_of, KeepsIndexes};
 ghost use Rattle.reflect_names.specs.FileNames.{with_files};
 ghost use Rattle.reflect_scope.specs.Known.{known_of};
@@ -31,13 +31,14 @@ use std::mem;
 
 /// The error of a walk that ended early.
 pub fn walk_error(alloc: Global, error: VisitError) -> DescriptorError
-    ensures { faults_of result ≡ another ∷ [] }
+    ensures first { result.first ≡ of_walk error }
+    ensures alone { faults_of result ≡ another ∷ [] }
 {
     DescriptorError::new(alloc, DescriptorErrorKind::from(error))
 }
 
 /// Ok where there are no faults, else the error that lists them.
-fn refused(faults: Vec<DescriptorErrorKind>) -> Result<(), DescriptorError>
+fn none_of(faults: Vec<DescriptorErrorKind>) -> Result<(), DescriptorError>
     ensures ok { OnOk result (faults.items ≡ []) }
     ensures err { IfErr result (λ e. faults_of e ≡ map fault_view faults.items) }
 {
@@ -52,7 +53,7 @@ pub fn without_faults(faults: Faults<'_>) -> Result<(), DescriptorError>
     ensures ok { OnOk result (list_of faults.entry ≡ []) }
     ensures err { IfErr result (λ e. faults_of e ≡ list_of faults.entry) }
 {
-    refused(faults.into_list())
+    none_of(faults.into_list())
 }
 
 /// Declares the names of the files, and puts their own names into the map of those. Refused where a
@@ -141,7 +142,7 @@ pub fn check_numbers(
         references.now xs) e) }
 {
     match check_rules(alloc, before, first, files, references, types) {
-        Ok(faults) => refused(faults),
+        Ok(faults) => none_of(faults),
         Err(error) => Err(walk_error(alloc, error)),
     }
 }

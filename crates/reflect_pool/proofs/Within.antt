@@ -1,8 +1,8 @@
 -- What the entries at places of a pool name is there.
-use Rattle.std.proofs.Common.{◌≡◌, ℕ, ◌<◌, ◌^◌, map, length, get_or, arith, ap, ◌∙◌, sym, subst}
+use Rattle.std.proofs.Common.{◌≡◌, ℕ, ◌<◌, map, length, get_or, arith, sym, subst}
 use Rattle.std.proofs.Math.ListN.{length-map}
 use Rattle.std.specs.List.{All}
-use Rattle.reflect_tables.specs.Types.{PoolType, MessageType, OneofType, ServiceType, ArePooled, IsWithin, ChildrenWithin, HoldsWithin, FileWithin, MessageWithin, EnumWithin, ExtensionWithin, MethodWithin, ServiceWithin, counts_of, no_type, no_oneof, no_enum, no_service}
+use Rattle.reflect_tables.specs.Types.{PoolType, FieldType, MessageType, OneofType, ServiceType, ArePooled, IsAmong, IsWithin, ChildrenWithin, HoldsWithin, FileWithin, MessageWithin, EnumWithin, ExtensionWithin, MethodWithin, ServiceWithin, counts_of, no_type, no_service}
 use Rattle.reflect_tables.specs.Views.{pool_of, file_of, places_of, children_of, message_of, enum_of, extension_of, service_of, method_of, field_of, oneof_of, kind_of}
 use Rattle.reflect_tables.specs.declared.tables.Tables.{Tables}
 use Rattle.reflect_tables.specs.declared.stored.StoredFile.{StoredFile}
@@ -13,7 +13,7 @@ use Rattle.reflect_tables.specs.declared.stored.StoredEnum.{StoredEnum}
 use Rattle.reflect_tables.specs.declared.stored.StoredExtension.{StoredExtension}
 use Rattle.reflect_tables.specs.declared.stored.StoredService.{StoredService}
 use Rattle.reflect_tables.specs.declared.stored.StoredMethod.{StoredMethod}
-use Rattle.reflect_pool.proofs.Places.{at_place, at_view, view_there}
+use Rattle.reflect_pool.proofs.Places.{at_view, view_there}
 
 pub message_within : (t : Tables) (pool : PoolType) (i : ℕ) (m : StoredMessage) → pool_of t ≡ pool → ArePooled (pool_of t)
     → i < length pool.messages → m ≡ get_or t.messages.items i m → MessageWithin (counts_of pool) (message_of m)
@@ -44,20 +44,6 @@ pub type_there : (t : Tables) (pool : PoolType) (i : ℕ) (m : StoredMessage) �
 type_there t pool i m e lt is =
     subst (λ (p : PoolType). i < length p.messages → get_or p.messages i no_type ≡ message_of m) e (λ below. view_there message_of t.messages.items i m no_type below is) lt
 
--- and the enum
-pub enum_there : (t : Tables) (pool : PoolType) (i : ℕ) (m : StoredEnum) → pool_of t ≡ pool
-    → i < length pool.enums → m ≡ get_or t.enums.items i m → get_or pool.enums i no_enum ≡ enum_of m
-enum_there t pool i m e lt is =
-    subst (λ (p : PoolType). i < length p.enums → get_or p.enums i no_enum ≡ enum_of m) e
-    (λ below. view_there enum_of t.enums.items i m no_enum below is) lt
-
--- so is the oneof at a place of it
-pub oneof_there : (t : Tables) (pool : PoolType) (i k : ℕ) (m : StoredMessage) (o : StoredOneof) → pool_of t ≡ pool → i < length pool.messages → m ≡ get_or t.messages.items i m
-    → k < length (get_or pool.messages i no_type).oneofs → o ≡ get_or m.oneofs.items k o → get_or (get_or pool.messages i no_type).oneofs k no_oneof ≡ oneof_of o
-oneof_there t pool i k m o e lt is inner was =
-    let there = type_there t pool i m e lt is in
-    ap (λ (n : MessageType). get_or n.oneofs k no_oneof) there ∙ view_there oneof_of m.oneofs.items k o no_oneof (subst (λ (n : MessageType). k < length n.oneofs) there inner) was
-
 -- the type that a field names is there
 pub kind_within : (t : Tables) (pool : PoolType) (i k : ℕ) (m : StoredMessage) (f : StoredField) → pool_of t ≡ pool → ArePooled (pool_of t)
     → i < length pool.messages → m ≡ get_or t.messages.items i m
@@ -67,6 +53,18 @@ kind_within t pool i k m f e h lt is inner was =
     let here = message_within t pool i m e h lt is in
     let there = type_there t pool i m e lt is in
     at_view field_of (λ g. IsWithin (counts_of pool) g.kind) m.fields.list.items k f here.fields (subst (λ (n : MessageType). k < length n.fields) there inner) was
+
+-- so is the oneof that it is a member of
+pub oneof_within : (t : Tables) (pool : PoolType) (i k : ℕ) (m : StoredMessage) (f : StoredField) → pool_of t ≡ pool → ArePooled (pool_of t)
+    → i < length pool.messages → m ≡ get_or t.messages.items i m
+    → k < length (get_or pool.messages i no_type).fields → f ≡ get_or m.fields.list.items k f
+    → IsAmong (length (get_or pool.messages i no_type).oneofs) f.oneof
+oneof_within t pool i k m f e h lt is inner was =
+    let here = message_within t pool i m e h lt is in
+    let there = type_there t pool i m e lt is in
+    let among : FieldType → Type 0 = λ g. IsAmong (length (message_of m).oneofs) g.oneof in
+    subst (λ (n : MessageType). IsAmong (length n.oneofs) f.oneof) (sym there)
+    (at_view field_of among m.fields.list.items k f here.oneofs (subst (λ (n : MessageType). k < length n.fields) there inner) was)
 
 -- the message types that a method names are there
 pub method_within : (t : Tables) (pool : PoolType) (i k : ℕ) (m : StoredService) (f : StoredMethod) → pool_of t ≡ pool → ArePooled (pool_of t)
@@ -78,20 +76,6 @@ method_within t pool i k m f e h lt is inner was =
     let there : get_or pool.services i no_service ≡ service_of m =
     subst (λ (p : PoolType). i < length p.services → get_or p.services i no_service ≡ service_of m) e (λ below. view_there service_of t.services.items i m no_service below is) lt in
     at_view method_of (MethodWithin (counts_of pool)) m.methods.items k f here.methods (subst (λ (n : ServiceType). k < length n.methods) there inner) was
-
--- an enum has a first value
-pub has_value : (t : Tables) (pool : PoolType) (i : ℕ) → pool_of t ≡ pool → ArePooled (pool_of t) → i < length pool.enums → 0 < length (get_or pool.enums i no_enum).values
-has_value t pool i e h lt = subst (λ (p : PoolType). i < length p.enums → 0 < length (get_or p.enums i no_enum).values) e (λ below. (at_place_of_enum t i h below)) lt where
-  at_place_of_enum : (t : Tables) (i : ℕ) → ArePooled (pool_of t) → i < length (map enum_of t.enums.items) → 0 < length (get_or (map enum_of t.enums.items) i no_enum).values
-  at_place_of_enum t i h below = (at_place (EnumWithin (counts_of (pool_of t))) (map enum_of t.enums.items) i no_enum h.enums below).some
-
--- a field's place is small
-pub few_fields : (t : Tables) (pool : PoolType) (i k : ℕ) (m : StoredMessage) → pool_of t ≡ pool → ArePooled (pool_of t)
-    → i < length pool.messages → m ≡ get_or t.messages.items i m → k < length m.fields.list.items → k < 2 ^ 31
-few_fields t pool i k m e h lt is below =
-    let few = (message_within t pool i m e h lt is).few in
-    let long : length (map field_of m.fields.list.items) ≡ length m.fields.list.items = length-map m.fields.list.items field_of in
-    omega (arith, few, long, below)
 
 -- what a message declares is there
 pub children_within : (t : Tables) (pool : PoolType) (i : ℕ) (m : StoredMessage) → pool_of t ≡ pool → ArePooled (pool_of t)

@@ -1,10 +1,12 @@
 ghost use Rattle.std.specs.Prelude.{◌≡◌, ◌<◌, ◌^◌, length, None, Some, IfSome, IsSome, MatchOption};
-ghost use Rattle.reflect_tables.specs.Types.{enum_at};
+ghost use Rattle.reflect_tables.specs.Types.{EnumWithin, counts_of, enum_at};
+ghost use Rattle.reflect_tables.specs.Views.{enum_of, value_of};
 ghost use Rattle.reflect_pool.specs.Parts.{type_of_value};
 
 use crate::message::MessageDescriptor;
 use crate::pool::DescriptorPool;
 use reflect_scope::{EnumIndex, EnumValueIndex};
+use reflect_tables::{StoredEnum, StoredValue};
 
 /// An enum type of a pool.
 #[derive(Clone, Copy)]
@@ -26,6 +28,14 @@ impl<'p> EnumDescriptor<'p> {
         self.pool
     }
 
+    fn stored(&self) -> &'p StoredEnum
+        ensures view { enum_of result.now ≡ enum_at self.now.pool.now self.now.index }
+        ensures within { EnumWithin (counts_of self.now.pool.now) (enum_of result.now) }
+    {
+        let pool = self.pool;
+        &pool.tables.enums[self.index as usize]
+    }
+
     /// The message that the type is declared in, if it is one.
     pub fn parent_message(&self) -> Option<MessageDescriptor<'p>>
         ensures pool { IfSome result (λ d. d.pool.now ≡ self.now.pool.now) }
@@ -33,16 +43,14 @@ impl<'p> EnumDescriptor<'p> {
             ((enum_at self.now.pool.now self.now.index).parent ≡ None)
             (λ d. (enum_at self.now.pool.now self.now.index).parent ≡ Some d.index) }
     {
-        let pool = self.pool;
-        pool.message_at(pool.tables.enums[self.index as usize].parent?)
+        self.pool.message_at(self.stored().parent?)
     }
 
     /// The name in the declaration that holds the type.
     pub fn name(&self) -> &'p str
         ensures { result.now ≡ (enum_at self.now.pool.now self.now.index).name }
     {
-        let pool = self.pool;
-        pool.tables.enums[self.index as usize].name.as_str()
+        self.stored().name.as_str()
     }
 
     /// The name with those of all that holds the type before it, joined by dots, without a leading
@@ -50,16 +58,14 @@ impl<'p> EnumDescriptor<'p> {
     pub fn full_name(&self) -> &'p str
         ensures { result.now ≡ (enum_at self.now.pool.now self.now.index).full_name }
     {
-        let pool = self.pool;
-        pool.tables.enums[self.index as usize].full_name.as_str()
+        self.stored().full_name.as_str()
     }
 
     /// Where the declaration stands in its file's record.
     pub fn path(&self) -> &'p [i32]
         ensures { result.now ≡ (enum_at self.now.pool.now self.now.index).path }
     {
-        let pool = self.pool;
-        pool.tables.enums[self.index as usize].path.as_slice()
+        self.stored().path.as_slice()
     }
 
     /// The value that a field of the type has where none is set: the first that was declared.
@@ -67,8 +73,7 @@ impl<'p> EnumDescriptor<'p> {
         ensures enumeration { result.enumeration ≡ self.now }
         ensures first { result.index ≡ 0 }
     {
-        let pool = self.pool;
-        let _ = &pool.tables.enums[self.index as usize];
+        let _ = self.stored();
         EnumValueDescriptor {
             enumeration: *self,
             index: 0,
@@ -92,10 +97,7 @@ impl<'p> EnumDescriptor<'p> {
         ensures enumeration { IfSome result (λ v. v.enumeration ≡ self.now) }
         ensures first { FindsValue (λ v. v.number ≡ number) self.now result }
     {
-        let pool = self.pool;
-        let place = pool.tables.enums[self.index as usize]
-            .values
-            .of_number(number)?;
+        let place = self.stored().values.of_number(number)?;
         Some(EnumValueDescriptor {
             enumeration: *self,
             index: place,
@@ -108,8 +110,7 @@ impl<'p> EnumDescriptor<'p> {
         ensures enumeration { IfSome result (λ v. v.enumeration ≡ self.now) }
         ensures first { FindsValue (λ v. v.name ≡ name.now) self.now result }
     {
-        let pool = self.pool;
-        let place = pool.tables.enums[self.index as usize].values.of_name(name)?;
+        let place = self.stored().values.of_name(name)?;
         Some(EnumValueDescriptor {
             enumeration: *self,
             index: place,
@@ -124,8 +125,7 @@ impl<'p> EnumDescriptor<'p> {
             → IsSome result }
         ensures few { IfSome result (λ v. v.index < 2 ^ 31) }
     {
-        let pool = self.pool;
-        if (place as usize) < pool.tables.enums[self.index as usize].values.list.len() {
+        if (place as usize) < self.stored().values.list.len() {
             Some(EnumValueDescriptor {
                 enumeration: *self,
                 index: place,
@@ -205,16 +205,22 @@ impl<'p> EnumValueDescriptor<'p> {
         self.enumeration
     }
 
+    fn stored(&self) -> &'p StoredValue
+        ensures { value_of result.now ≡ type_of_value self.now.enumeration.pool.now
+            self.now.enumeration.index self.now.index }
+    {
+        let pool = self.enumeration.pool;
+        &pool.tables.enums[self.enumeration.index as usize]
+            .values
+            .list[self.index as usize]
+    }
+
+    /// The name, as it is declared.
     pub fn name(&self) -> &'p str
         ensures { result.now ≡ (type_of_value self.now.enumeration.pool.now
             self.now.enumeration.index self.now.index).name }
     {
-        let pool = self.enumeration.pool;
-        pool.tables.enums[self.enumeration.index as usize]
-            .values
-            .list[self.index as usize]
-            .name
-            .as_str()
+        self.stored().name.as_str()
     }
 
     /// The value's name behind that of what the enum is declared in.
@@ -222,12 +228,7 @@ impl<'p> EnumValueDescriptor<'p> {
         ensures { result.now ≡ (type_of_value self.now.enumeration.pool.now
             self.now.enumeration.index self.now.index).full_name }
     {
-        let pool = self.enumeration.pool;
-        pool.tables.enums[self.enumeration.index as usize]
-            .values
-            .list[self.index as usize]
-            .full_name
-            .as_str()
+        self.stored().full_name.as_str()
     }
 
     /// Where the declaration stands in its file's record.
@@ -235,23 +236,15 @@ impl<'p> EnumValueDescriptor<'p> {
         ensures { result.now ≡ (type_of_value self.now.enumeration.pool.now
             self.now.enumeration.index self.now.index).path }
     {
-        let pool = self.enumeration.pool;
-        pool.tables.enums[self.enumeration.index as usize]
-            .values
-            .list[self.index as usize]
-            .path
-            .as_slice()
+        self.stored().path.as_slice()
     }
 
+    /// The number. Where the enum allows aliases another value may have it too.
     pub fn number(&self) -> i32
         ensures { result ≡ (type_of_value self.now.enumeration.pool.now self.now.enumeration.index
             self.now.index).number }
     {
-        let pool = self.enumeration.pool;
-        pool.tables.enums[self.enumeration.index as usize]
-            .values
-            .list[self.index as usize]
-            .number
+        self.stored().number
     }
 }
 

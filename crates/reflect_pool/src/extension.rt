@@ -1,13 +1,14 @@
 ghost use Rattle.std.specs.Prelude.{◌≡◌, ◌<◌, All, length, None, Some, IfSome, MatchOption};
 ghost use Rattle.std.proofs.Props.{props};
-ghost use Rattle.reflect_tables.specs.Types.{extension_at};
+ghost use Rattle.reflect_tables.specs.Types.{ExtensionWithin, counts_of, extension_at};
+ghost use Rattle.reflect_tables.specs.Views.{extension_of};
 
 use crate::kind::{DefaultValue, Kind};
 use crate::message::MessageDescriptor;
 use crate::pool::DescriptorPool;
 use crate::reading::{default_value, is_map, kind_in};
 use reflect_scope::{ExtensionIndex, MessageIndex};
-use reflect_tables::Cardinality;
+use reflect_tables::{Cardinality, StoredExtension};
 use std::collections::btree_map;
 
 /// An extension of a pool: a field of a message type that is declared elsewhere.
@@ -30,6 +31,14 @@ impl<'p> ExtensionDescriptor<'p> {
         self.pool
     }
 
+    fn stored(&self) -> &'p StoredExtension
+        ensures view { extension_of result.now ≡ extension_at self.now.pool.now self.now.index }
+        ensures within { ExtensionWithin (counts_of self.now.pool.now) (extension_of result.now) }
+    {
+        let pool = self.pool;
+        &pool.tables.extensions[self.index as usize]
+    }
+
     /// The message that the extension is declared in, if it is one, whatever it extends.
     pub fn parent_message(&self) -> Option<MessageDescriptor<'p>>
         ensures pool { IfSome result (λ d. d.pool.now ≡ self.now.pool.now) }
@@ -37,8 +46,7 @@ impl<'p> ExtensionDescriptor<'p> {
             ((extension_at self.now.pool.now self.now.index).parent ≡ None)
             (λ d. (extension_at self.now.pool.now self.now.index).parent ≡ Some d.index) }
     {
-        let pool = self.pool;
-        pool.message_at(pool.tables.extensions[self.index as usize].parent?)
+        self.pool.message_at(self.stored().parent?)
     }
 
     /// The message type that it extends.
@@ -46,21 +54,17 @@ impl<'p> ExtensionDescriptor<'p> {
         ensures pool { result.pool.now ≡ self.now.pool.now }
         ensures index { result.index ≡ (extension_at self.now.pool.now self.now.index).extendee }
     {
-        let pool = self.pool;
         MessageDescriptor {
-            pool,
-            index: pool.tables.extensions[self.index as usize].extendee,
+            pool: self.pool,
+            index: self.stored().extendee,
         }
     }
 
+    /// The name, as it is declared.
     pub fn name(&self) -> &'p str
         ensures { result.now ≡ (extension_at self.now.pool.now self.now.index).field.name }
     {
-        let pool = self.pool;
-        pool.tables.extensions[self.index as usize]
-            .field
-            .name
-            .as_str()
+        self.stored().field.name.as_str()
     }
 
     /// The name with those of all that holds the declaration before it, joined by dots, without a
@@ -68,56 +72,42 @@ impl<'p> ExtensionDescriptor<'p> {
     pub fn full_name(&self) -> &'p str
         ensures { result.now ≡ (extension_at self.now.pool.now self.now.index).field.full_name }
     {
-        let pool = self.pool;
-        pool.tables.extensions[self.index as usize]
-            .field
-            .full_name
-            .as_str()
+        self.stored().field.full_name.as_str()
     }
 
     /// The full name in brackets.
     pub fn json_name(&self) -> &'p str
         ensures { result.now ≡ (extension_at self.now.pool.now self.now.index).json_name }
     {
-        let pool = self.pool;
-        pool.tables.extensions[self.index as usize]
-            .json_name
-            .as_str()
+        self.stored().json_name.as_str()
     }
 
     /// Where the declaration stands in its file's record.
     pub fn path(&self) -> &'p [i32]
         ensures { result.now ≡ (extension_at self.now.pool.now self.now.index).field.path }
     {
-        let pool = self.pool;
-        pool.tables.extensions[self.index as usize]
-            .field
-            .path
-            .as_slice()
+        self.stored().field.path.as_slice()
     }
 
+    /// The number that stands in the keys of its records.
     pub fn number(&self) -> u32
         ensures { result ≡ (extension_at self.now.pool.now self.now.index).field.number }
     {
-        let pool = self.pool;
-        pool.tables.extensions[self.index as usize].field.number
+        self.stored().field.number
     }
 
+    /// How often it may stand.
     pub fn cardinality(&self) -> Cardinality
         ensures { result ≡ (extension_at self.now.pool.now self.now.index).field.cardinality }
     {
-        let pool = self.pool;
-        pool.tables.extensions[self.index as usize]
-            .field
-            .cardinality
+        self.stored().field.cardinality
     }
 
     /// The value is written between two tags, and its type is declared with the extension.
     pub fn is_group(&self) -> bool
         ensures { result ≡ (extension_at self.now.pool.now self.now.index).field.group }
     {
-        let pool = self.pool;
-        pool.tables.extensions[self.index as usize].field.is_group
+        self.stored().field.is_group
     }
 
     /// It holds any number of values, and is no map.
@@ -133,34 +123,29 @@ impl<'p> ExtensionDescriptor<'p> {
         ensures { result ≡ holds_map self.now.pool.now
             (extension_at self.now.pool.now self.now.index).field }
     {
-        let pool = self.pool;
-        is_map(pool, &pool.tables.extensions[self.index as usize].field)
+        is_map(self.pool, &self.stored().field)
     }
 
     /// A list of numbers is written as one record.
     pub fn is_packed(&self) -> bool
         ensures { result ≡ (extension_at self.now.pool.now self.now.index).field.packed }
     {
-        let pool = self.pool;
-        pool.tables.extensions[self.index as usize].field.is_packed
+        self.stored().field.is_packed
     }
 
     /// An extension that is not set differs from one that holds the default.
     pub fn supports_presence(&self) -> bool
         ensures { result ≡ (extension_at self.now.pool.now self.now.index).field.presence }
     {
-        let pool = self.pool;
-        pool.tables.extensions[self.index as usize]
-            .field
-            .supports_presence
+        self.stored().field.supports_presence
     }
 
+    /// What it holds; of a map that is the type of its entries.
     pub fn kind(&self) -> Kind<'p>
         ensures { IsKind self.now.pool.now result
             (extension_at self.now.pool.now self.now.index).field.kind }
     {
-        let pool = self.pool;
-        kind_in(pool, pool.tables.extensions[self.index as usize].field.kind)
+        kind_in(self.pool, self.stored().field.kind)
     }
 
     /// The default that the declaration gives, if it gives one.
@@ -168,8 +153,7 @@ impl<'p> ExtensionDescriptor<'p> {
         ensures { IsDefault self.now.pool.now
             (extension_at self.now.pool.now self.now.index).field result }
     {
-        let pool = self.pool;
-        default_value(pool, &pool.tables.extensions[self.index as usize].field)
+        default_value(self.pool, &self.stored().field)
     }
 }
 

@@ -1,5 +1,6 @@
 ghost use Rattle.std.specs.Prelude.{◌≡◌, ◌<◌, ℕ, length, None, Some, IfSome, IsSome, MatchOption};
-ghost use Rattle.reflect_tables.specs.Types.{type_at, type_of_field};
+ghost use Rattle.reflect_tables.specs.Types.{IsAmong, IsWithin, counts_of, type_at, type_of_field};
+ghost use Rattle.reflect_tables.specs.Views.{field_of, kind_of};
 
 use crate::kind::{DefaultValue, Kind};
 use crate::message::MessageDescriptor;
@@ -7,7 +8,7 @@ use crate::oneof::OneofDescriptor;
 use crate::pool::DescriptorPool;
 use crate::reading::{default_value, is_map, kind_in};
 use reflect_scope::FieldIndex;
-use reflect_tables::Cardinality;
+use reflect_tables::{Cardinality, StoredField};
 
 /// A field of a message type.
 #[derive(Clone, Copy)]
@@ -36,16 +37,25 @@ impl<'p> FieldDescriptor<'p> {
         self.message
     }
 
+    fn stored(&self) -> &'p StoredField
+        ensures view { field_of result.now ≡ type_of_field self.now.message.pool.now
+            self.now.message.index self.now.index }
+        ensures within { IsWithin (counts_of self.now.message.pool.now) (kind_of result.now.kind) }
+        ensures oneof { IsAmong (length (type_at self.now.message.pool.now
+            self.now.message.index).oneofs) result.now.oneof }
+    {
+        let pool = self.message.pool;
+        &pool.tables.messages[self.message.index as usize]
+            .fields
+            .list[self.index as usize]
+    }
+
+    /// The name, as it is declared.
     pub fn name(&self) -> &'p str
         ensures { result.now ≡ (type_of_field self.now.message.pool.now self.now.message.index
             self.now.index).name }
     {
-        let pool = self.message.pool;
-        pool.tables.messages[self.message.index as usize]
-            .fields
-            .list[self.index as usize]
-            .name
-            .as_str()
+        self.stored().name.as_str()
     }
 
     /// The type's full name, a dot and the field's name.
@@ -53,12 +63,7 @@ impl<'p> FieldDescriptor<'p> {
         ensures { result.now ≡ (type_of_field self.now.message.pool.now self.now.message.index
             self.now.index).full_name }
     {
-        let pool = self.message.pool;
-        pool.tables.messages[self.message.index as usize]
-            .fields
-            .list[self.index as usize]
-            .full_name
-            .as_str()
+        self.stored().full_name.as_str()
     }
 
     /// The JSON name that was written, if one was.
@@ -68,15 +73,7 @@ impl<'p> FieldDescriptor<'p> {
             (λ name. (type_of_field self.now.message.pool.now self.now.message.index
             self.now.index).json_name ≡ Some name.now) }
     {
-        let pool = self.message.pool;
-        match &pool.tables.messages[self.message.index as usize]
-            .fields
-            .list[self.index as usize]
-            .json_name
-        {
-            Some(name) => Some(name.as_str()),
-            None => None,
-        }
+        self.stored().json_name.as_deref()
     }
 
     /// Where the declaration stands in its file's record.
@@ -84,34 +81,23 @@ impl<'p> FieldDescriptor<'p> {
         ensures { result.now ≡ (type_of_field self.now.message.pool.now self.now.message.index
             self.now.index).path }
     {
-        let pool = self.message.pool;
-        pool.tables.messages[self.message.index as usize]
-            .fields
-            .list[self.index as usize]
-            .path
-            .as_slice()
+        self.stored().path.as_slice()
     }
 
+    /// The number that stands in the keys of its records.
     pub fn number(&self) -> u32
         ensures { result ≡ (type_of_field self.now.message.pool.now self.now.message.index
             self.now.index).number }
     {
-        let pool = self.message.pool;
-        pool.tables.messages[self.message.index as usize]
-            .fields
-            .list[self.index as usize]
-            .number
+        self.stored().number
     }
 
+    /// How often it may stand.
     pub fn cardinality(&self) -> Cardinality
         ensures { result ≡ (type_of_field self.now.message.pool.now self.now.message.index
             self.now.index).cardinality }
     {
-        let pool = self.message.pool;
-        pool.tables.messages[self.message.index as usize]
-            .fields
-            .list[self.index as usize]
-            .cardinality
+        self.stored().cardinality
     }
 
     /// The field has to be set (proto2).
@@ -128,11 +114,7 @@ impl<'p> FieldDescriptor<'p> {
         ensures { result ≡ (type_of_field self.now.message.pool.now self.now.message.index
             self.now.index).group }
     {
-        let pool = self.message.pool;
-        pool.tables.messages[self.message.index as usize]
-            .fields
-            .list[self.index as usize]
-            .is_group
+        self.stored().is_group
     }
 
     /// The field holds any number of values, and is no map.
@@ -148,13 +130,7 @@ impl<'p> FieldDescriptor<'p> {
         ensures { result ≡ holds_map self.now.message.pool.now
             (type_of_field self.now.message.pool.now self.now.message.index self.now.index) }
     {
-        let pool = self.message.pool;
-        is_map(
-            pool,
-            &pool.tables.messages[self.message.index as usize]
-                .fields
-                .list[self.index as usize],
-        )
+        is_map(self.message.pool, self.stored())
     }
 
     /// A list of numbers is written as one record.
@@ -162,11 +138,7 @@ impl<'p> FieldDescriptor<'p> {
         ensures { result ≡ (type_of_field self.now.message.pool.now self.now.message.index
             self.now.index).packed }
     {
-        let pool = self.message.pool;
-        pool.tables.messages[self.message.index as usize]
-            .fields
-            .list[self.index as usize]
-            .is_packed
+        self.stored().is_packed
     }
 
     /// A field that is not set differs from one that holds the default.
@@ -174,11 +146,7 @@ impl<'p> FieldDescriptor<'p> {
         ensures { result ≡ (type_of_field self.now.message.pool.now self.now.message.index
             self.now.index).presence }
     {
-        let pool = self.message.pool;
-        pool.tables.messages[self.message.index as usize]
-            .fields
-            .list[self.index as usize]
-            .supports_presence
+        self.stored().supports_presence
     }
 
     /// The oneof that the field is a member of, a synthetic one too; none where it is in none.
@@ -190,25 +158,15 @@ impl<'p> FieldDescriptor<'p> {
         ensures there { IsSome (type_of_field self.now.message.pool.now self.now.message.index
             self.now.index).oneof → IsSome result }
     {
-        let pool = self.message.pool;
-        let field = &pool.tables.messages[self.message.index as usize]
-            .fields
-            .list[self.index as usize];
-        self.message.oneof_at(field.oneof?)
+        self.message.oneof_at(self.stored().oneof?)
     }
 
+    /// What it holds; of a map that is the type of its entries.
     pub fn kind(&self) -> Kind<'p>
         ensures { IsKind self.now.message.pool.now result
             (type_of_field self.now.message.pool.now self.now.message.index self.now.index).kind }
     {
-        let pool = self.message.pool;
-        kind_in(
-            pool,
-            pool.tables.messages[self.message.index as usize]
-                .fields
-                .list[self.index as usize]
-                .kind,
-        )
+        kind_in(self.message.pool, self.stored().kind)
     }
 
     /// The default that the declaration gives, if it gives one.
@@ -216,13 +174,7 @@ impl<'p> FieldDescriptor<'p> {
         ensures { IsDefault self.now.message.pool.now
             (type_of_field self.now.message.pool.now self.now.message.index self.now.index) result }
     {
-        let pool = self.message.pool;
-        default_value(
-            pool,
-            &pool.tables.messages[self.message.index as usize]
-                .fields
-                .list[self.index as usize],
-        )
+        default_value(self.message.pool, self.stored())
     }
 }
 

@@ -1,11 +1,13 @@
 ghost use Rattle.std.specs.Prelude.{◌≡◌, ◌<◌, ◌^◌, ◌↔◌, All, length, map, None, Some, IfSome, IsSome, IsTrue, MatchOption};
-ghost use Rattle.reflect_tables.specs.Types.{type_at, extension_at};
+ghost use Rattle.reflect_tables.specs.Types.{MessageWithin, counts_of, type_at, extension_at};
+ghost use Rattle.reflect_tables.specs.Views.{message_of};
 
 use crate::extension::{ExtensionDescriptor, MessageExtensions};
 use crate::field::FieldDescriptor;
 use crate::oneof::{OneofDescriptor, Oneofs};
 use crate::pool::DescriptorPool;
 use reflect_scope::{ExtensionIndex, FieldIndex, MessageIndex, OneofIndex};
+use reflect_tables::StoredMessage;
 
 /// A message type of a pool.
 #[derive(Clone, Copy)]
@@ -30,6 +32,14 @@ impl<'p> MessageDescriptor<'p> {
         self.pool
     }
 
+    fn stored(&self) -> &'p StoredMessage
+        ensures view { message_of result.now ≡ type_at self.now.pool.now self.now.index }
+        ensures within { MessageWithin (counts_of self.now.pool.now) (message_of result.now) }
+    {
+        let pool = self.pool;
+        &pool.tables.messages[self.index as usize]
+    }
+
     /// The message that the type is declared in, if it is one.
     pub fn parent_message(&self) -> Option<MessageDescriptor<'p>>
         ensures pool { IfSome result (λ d. d.pool.now ≡ self.now.pool.now) }
@@ -37,16 +47,14 @@ impl<'p> MessageDescriptor<'p> {
             ((type_at self.now.pool.now self.now.index).parent ≡ None)
             (λ d. (type_at self.now.pool.now self.now.index).parent ≡ Some d.index) }
     {
-        let pool = self.pool;
-        pool.message_at(pool.tables.messages[self.index as usize].parent?)
+        self.pool.message_at(self.stored().parent?)
     }
 
     /// The name in the declaration that holds the type.
     pub fn name(&self) -> &'p str
         ensures { result.now ≡ (type_at self.now.pool.now self.now.index).name }
     {
-        let pool = self.pool;
-        pool.tables.messages[self.index as usize].name.as_str()
+        self.stored().name.as_str()
     }
 
     /// The name with those of all that holds the type before it, joined by dots, without a leading
@@ -54,16 +62,14 @@ impl<'p> MessageDescriptor<'p> {
     pub fn full_name(&self) -> &'p str
         ensures { result.now ≡ (type_at self.now.pool.now self.now.index).full_name }
     {
-        let pool = self.pool;
-        pool.tables.messages[self.index as usize].full_name.as_str()
+        self.stored().full_name.as_str()
     }
 
     /// Where the declaration stands in its file's record.
     pub fn path(&self) -> &'p [i32]
         ensures { result.now ≡ (type_at self.now.pool.now self.now.index).path }
     {
-        let pool = self.pool;
-        pool.tables.messages[self.index as usize].path.as_slice()
+        self.stored().path.as_slice()
     }
 
     /// Both have one place and one full name in their pools.
@@ -100,10 +106,7 @@ impl<'p> MessageDescriptor<'p> {
         ensures message { IfSome result (λ f. f.message ≡ self.now) }
         ensures first { FindsField (λ f. f.number ≡ number) self.now result }
     {
-        let pool = self.pool;
-        let place = pool.tables.messages[self.index as usize]
-            .fields
-            .of_number(number)?;
+        let place = self.stored().fields.of_number(number)?;
         Some(FieldDescriptor {
             message: *self,
             index: place,
@@ -116,10 +119,7 @@ impl<'p> MessageDescriptor<'p> {
         ensures message { IfSome result (λ f. f.message ≡ self.now) }
         ensures first { FindsField (λ f. f.name ≡ name.now) self.now result }
     {
-        let pool = self.pool;
-        let place = pool.tables.messages[self.index as usize]
-            .fields
-            .of_name(name)?;
+        let place = self.stored().fields.of_name(name)?;
         Some(FieldDescriptor {
             message: *self,
             index: place,
@@ -132,10 +132,7 @@ impl<'p> MessageDescriptor<'p> {
         ensures message { IfSome result (λ f. f.message ≡ self.now) }
         ensures first { FindsField (λ f. f.json_name ≡ Some name.now) self.now result }
     {
-        let pool = self.pool;
-        let place = pool.tables.messages[self.index as usize]
-            .fields
-            .of_json_name(name)?;
+        let place = self.stored().fields.of_json_name(name)?;
         Some(FieldDescriptor {
             message: *self,
             index: place,
@@ -148,9 +145,9 @@ impl<'p> MessageDescriptor<'p> {
         ensures place { IfSome result (λ f. f.index ≡ place) }
         ensures there { place < length (type_at self.now.pool.now self.now.index).fields
             → IsSome result }
+        ensures few { IfSome result (λ f. f.index < 2 ^ 31) }
     {
-        let pool = self.pool;
-        if (place as usize) < pool.tables.messages[self.index as usize].fields.list.len() {
+        if (place as usize) < self.stored().fields.list.len() {
             Some(FieldDescriptor {
                 message: *self,
                 index: place,
@@ -168,8 +165,7 @@ impl<'p> MessageDescriptor<'p> {
             → IsSome result }
         ensures few { IfSome result (λ o. o.index < 2 ^ 31) }
     {
-        let pool = self.pool;
-        if (place as usize) < pool.tables.messages[self.index as usize].oneofs.len() {
+        if (place as usize) < self.stored().oneofs.len() {
             Some(OneofDescriptor {
                 message: *self,
                 index: place,
@@ -183,8 +179,7 @@ impl<'p> MessageDescriptor<'p> {
     pub fn is_map_entry(&self) -> bool
         ensures { IsTrue result ↔ IsSome (type_at self.now.pool.now self.now.index).entry }
     {
-        let pool = self.pool;
-        pool.tables.messages[self.index as usize].entry.is_some()
+        self.stored().entry.is_some()
     }
 
     /// The key of a map's entry.
@@ -194,10 +189,9 @@ impl<'p> MessageDescriptor<'p> {
         ensures place { IfSome (type_at self.now.pool.now self.now.index).entry
             (λ e. result.index ≡ e.key) }
     {
-        let pool = self.pool;
         FieldDescriptor {
             message: *self,
-            index: pool.tables.messages[self.index as usize].entry.unwrap().key,
+            index: self.stored().entry.unwrap().key,
         }
     }
 
@@ -208,13 +202,9 @@ impl<'p> MessageDescriptor<'p> {
         ensures place { IfSome (type_at self.now.pool.now self.now.index).entry
             (λ e. result.index ≡ e.value) }
     {
-        let pool = self.pool;
         FieldDescriptor {
             message: *self,
-            index: pool.tables.messages[self.index as usize]
-                .entry
-                .unwrap()
-                .value,
+            index: self.stored().entry.unwrap().value,
         }
     }
 
@@ -329,17 +319,8 @@ impl<'p> Iterator for Fields<'p> {
     ghost remaining = { item_count fields_left };
 
     fn next(&mut self) -> Option<FieldDescriptor<'p>> {
-        let pool = self.message.pool;
-        let message = &pool.tables.messages[self.message.index as usize];
-        if (self.next as usize) < message.fields.list.len() {
-            let field = FieldDescriptor {
-                message: self.message,
-                index: self.next,
-            };
-            self.next += 1;
-            Some(field)
-        } else {
-            None
-        }
+        let field = self.message.field_at(self.next)?;
+        self.next += 1;
+        Some(field)
     }
 }

@@ -1,12 +1,14 @@
 ghost use Rattle.std.specs.Prelude.{◌≡◌, ◌<◌, All, length, map, IfSome};
 ghost use Rattle.std.proofs.Props.{props};
-ghost use Rattle.reflect_tables.specs.Types.{type_at};
+ghost use Rattle.reflect_tables.specs.Types.{type_at, type_of_field};
+ghost use Rattle.reflect_tables.specs.Views.{oneof_of};
 ghost use Rattle.reflect_pool.specs.Parts.{type_of_oneof, members_of};
 
 use crate::field::FieldDescriptor;
 use crate::message::MessageDescriptor;
 use crate::pool::DescriptorPool;
 use reflect_scope::{FieldIndex, OneofIndex};
+use reflect_tables::StoredOneof;
 
 /// A oneof of a message type.
 #[derive(Clone, Copy)]
@@ -35,14 +37,25 @@ impl<'p> OneofDescriptor<'p> {
         self.message
     }
 
+    fn stored(&self) -> &'p StoredOneof
+        ensures view { oneof_of result.now ≡ type_of_oneof self.now.message.pool.now
+            self.now.message.index self.now.index }
+        ensures within { All (λ place. place < length (type_at self.now.message.pool.now
+            self.now.message.index).fields) result.now.fields.items }
+        ensures members { map (type_of_field self.now.message.pool.now self.now.message.index)
+            (type_of_oneof self.now.message.pool.now self.now.message.index self.now.index).fields
+            ≡ members_of self.now.message.pool.now self.now.message.index self.now.index }
+    {
+        let pool = self.message.pool;
+        &pool.tables.messages[self.message.index as usize].oneofs[self.index as usize]
+    }
+
+    /// The name, as it is declared.
     pub fn name(&self) -> &'p str
         ensures { result.now ≡ (type_of_oneof self.now.message.pool.now self.now.message.index
             self.now.index).name }
     {
-        let pool = self.message.pool;
-        pool.tables.messages[self.message.index as usize].oneofs[self.index as usize]
-            .name
-            .as_str()
+        self.stored().name.as_str()
     }
 
     /// The type's full name, a dot and the oneof's name.
@@ -50,10 +63,7 @@ impl<'p> OneofDescriptor<'p> {
         ensures { result.now ≡ (type_of_oneof self.now.message.pool.now self.now.message.index
             self.now.index).full_name }
     {
-        let pool = self.message.pool;
-        pool.tables.messages[self.message.index as usize].oneofs[self.index as usize]
-            .full_name
-            .as_str()
+        self.stored().full_name.as_str()
     }
 
     /// Where the declaration stands in its file's record.
@@ -61,10 +71,7 @@ impl<'p> OneofDescriptor<'p> {
         ensures { result.now ≡ (type_of_oneof self.now.message.pool.now self.now.message.index
             self.now.index).path }
     {
-        let pool = self.message.pool;
-        pool.tables.messages[self.message.index as usize].oneofs[self.index as usize]
-            .path
-            .as_slice()
+        self.stored().path.as_slice()
     }
 
     /// It stands for one field of a proto3 file that was declared `optional`.
@@ -72,8 +79,7 @@ impl<'p> OneofDescriptor<'p> {
         ensures { result ≡ (type_of_oneof self.now.message.pool.now self.now.message.index
             self.now.index).synthetic }
     {
-        let pool = self.message.pool;
-        pool.tables.messages[self.message.index as usize].oneofs[self.index as usize].is_synthetic
+        self.stored().is_synthetic
     }
 
     /// The members, as they were declared.
@@ -84,12 +90,9 @@ impl<'p> OneofDescriptor<'p> {
         ensures members { map type_in (members_left result)
             ≡ members_of self.now.message.pool.now self.now.message.index self.now.index }
     {
-        let pool = self.message.pool;
         OneofFields {
             message: self.message,
-            places: pool.tables.messages[self.message.index as usize].oneofs[self.index as usize]
-                .fields
-                .as_slice(),
+            places: self.stored().fields.as_slice(),
         }
     }
 }

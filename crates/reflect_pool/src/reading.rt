@@ -71,16 +71,15 @@ pub fn default_value<'p>(
 ) -> Option<DefaultValue<'p>>
     ensures { IsDefault pool.now (field_of field.now) result }
 {
-    match &field.default {
-        None => None,
-        Some(StoredDefault::I64(value)) => Some(DefaultValue::I64(*value)),
-        Some(StoredDefault::U64(value)) => Some(DefaultValue::U64(*value)),
-        Some(StoredDefault::Bool(value)) => Some(DefaultValue::Bool(*value)),
-        Some(StoredDefault::Text(text)) => Some(DefaultValue::Text(text.as_str())),
-        Some(StoredDefault::Bytes(bytes)) => Some(DefaultValue::Bytes(bytes.as_slice())),
-        Some(StoredDefault::Float(text)) => Some(DefaultValue::Float(text.as_str())),
-        Some(StoredDefault::Enum(name)) => {
-            Some(DefaultValue::Enum(value_number(pool, field.kind, name.as_str())?))
+    Some(match field.default.as_ref()? {
+        StoredDefault::I64(value) => DefaultValue::I64(*value),
+        StoredDefault::U64(value) => DefaultValue::U64(*value),
+        StoredDefault::Bool(value) => DefaultValue::Bool(*value),
+        StoredDefault::Text(text) => DefaultValue::Text(text.as_str()),
+        StoredDefault::Bytes(bytes) => DefaultValue::Bytes(bytes.as_slice()),
+        StoredDefault::Float(text) => DefaultValue::Float(text.as_str()),
+        StoredDefault::Enum(name) => {
+            DefaultValue::Enum(value_number(pool, field.kind, name.as_str())?)
         }
-    }
+    })
 }

@@ -1,4 +1,5 @@
 pub mod Again
+pub mod KeyTypes
 pub mod RuleRuns
 pub mod Then
 pub mod UseRuns

@@ -18,11 +18,7 @@ use std::alloc::{AllocError, Global};
 fn is_one_map(used: Option<EntryUse>) -> bool
     ensures { result ≡ is_one used }
 {
-    match used {
-        Some(EntryUse::OneMap) => true,
-        Some(EntryUse::Other) => false,
-        None => false,
-    }
+    matches!(used, Some(EntryUse::OneMap))
 }
 
 /// Lists the type of a map's entries that has not the shape of one or is not the type of one
@@ -41,7 +37,7 @@ pub fn check_entry(
         (parts_of message.now))) }
 {
     let is_right = has_entry_shape(message) && is_one_map(used);
-    if !(says_map_entry(message) && !is_right) {
+    if !says_map_entry(message) || is_right {
         return Ok(());
     }
     let found = faults.label(alloc, file, path)?;

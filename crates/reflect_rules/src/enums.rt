@@ -5,7 +5,6 @@ ghost use Rattle.reflect_names.specs.Faults.{Adds, place_at, duplicate_enum_numb
 ghost use Rattle.reflect_rules.specs.Repeats.{repeat_fault, listed};
 ghost use Rattle.reflect_rules.specs.EnumRules.{allows_aliases as may_alias, alias_faults, first_faults, enum_faults};
 
-use crate::map_entry::is_equal;
 use crate::numbers::{entry_label, repeated};
 use descriptor_records::{EnumDescriptorProto, EnumValueDescriptorProto, tag};
 use reflect_names::{DescriptorErrorKind, Faults, VisitError};
@@ -104,7 +103,7 @@ fn check_first(
     ensures { OnOk result (Adds faults.old faults.new
         (first_faults (place_at faults.old file) path.now is_proto3 number)) }
 {
-    if is_proto3 && !is_equal(number, 0) {
+    if is_proto3 && number != Some(0) {
         let (list, field) = (tag::enumeration::VALUE, tag::enum_value::NUMBER);
         let found = entry_label(alloc, faults, file, path, list, 0, field)?;
         faults.push(DescriptorErrorKind::InvalidProto3EnumDefault { found })?;

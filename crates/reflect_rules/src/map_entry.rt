@@ -1,14 +1,12 @@
 //! The shape of the type of a map's entries (protobuf.dev, "Maps": a repeated field of a message
 //! with `key` and `value`).
 
-ghost use Rattle.std.specs.Prelude.{◌≡◌};
+ghost use Rattle.std.specs.Prelude.{◌≡◌, Some};
+ghost use Rattle.descriptor_records.specs.FieldNumbers.{type_number};
 ghost use Rattle.reflect_declarations.specs.Tree.{parts_of};
-ghost use Rattle.reflect_rules.specs.MapEntries.{has_name as is_named_so, is_optional as may_be_optional, is_equal as is_number_so, is_part as is_part_so, is_key_type as may_be_key, share_oneof as share_one, are_key_and_value as are_parts, has_entry_shape as is_shaped};
+ghost use Rattle.reflect_rules.specs.MapEntries.{has_name as is_named_so, is_optional as may_be_optional, is_part as is_part_so, is_key_type as may_be_key, share_oneof as share_one, are_key_and_value as are_parts, has_entry_shape as is_shaped};
 
-use descriptor_records::{DescriptorProto, FieldDescriptorProto};
-
-/// The number of an optional field's label.
-const OPTIONAL: i32 = 1;
+use descriptor_records::{DescriptorProto, FieldDescriptorProto, FieldType, Label};
 
 fn is_named(field: &FieldDescriptorProto, name: &str) -> bool
     ensures { result ≡ is_named_so field.now name.now }
@@ -22,42 +20,42 @@ fn is_named(field: &FieldDescriptorProto, name: &str) -> bool
 fn is_optional(label: Option<i32>) -> bool
     ensures { result ≡ may_be_optional label }
 {
-    match label {
-        Some(label) => label == OPTIONAL,
-        None => true,
-    }
-}
-
-/// The number is there, and is this one.
-pub fn is_equal(found: Option<i32>, number: i32) -> bool
-    ensures { result ≡ is_number_so found number }
-{
-    match found {
-        Some(found) => found == number,
-        None => false,
-    }
+    let optional = Label::Optional.number();
+    label.unwrap_or(optional) == optional
 }
 
 /// The field has this name and number, and is optional.
 fn is_part(field: &FieldDescriptorProto, name: &str, number: i32) -> bool
     ensures { result ≡ is_part_so field.now name.now number }
 {
-    is_named(field, name) && is_equal(field.number, number) && is_optional(field.label)
+    is_named(field, name) && field.number == Some(number) && is_optional(field.label)
 }
 
-/// The number of the type is that of one of the integers, a truth value or a string: not of a float
-/// (1, 2), a group, a message or bytes (10 to 12) or an enum (14).
+/// Maps may have keys of integers, truth values and strings.
+fn is_key(field_type: FieldType) -> bool
+    ensures { result ≡ may_be_key (Some (type_number field_type)) }
+{
+    !matches!(
+        field_type,
+        FieldType::Double
+            | FieldType::Float
+            | FieldType::Bytes
+            | FieldType::Group
+            | FieldType::Message
+            | FieldType::Enum
+    )
+}
+
+/// The type of the number is that of integers, truth values or strings.
 fn is_key_type(field_type: Option<i32>) -> bool
     ensures { result ≡ may_be_key field_type }
 {
     let Some(number) = field_type else {
         return false;
     };
-    match u32::try_from(number) {
-        Ok(number) => {
-            (3 <= number && number <= 9) || number == 13 || (15 <= number && number <= 18)
-        }
-        Err(_) => false,
+    match FieldType::from_number(number) {
+        Some(field_type) => is_key(field_type),
+        None => false,
     }
 }
 
@@ -65,10 +63,7 @@ fn is_key_type(field_type: Option<i32>) -> bool
 fn share_oneof(key: Option<i32>, value: Option<i32>) -> bool
     ensures { result ≡ share_one key value }
 {
-    match (key, value) {
-        (Some(key), Some(value)) => key == value,
-        _ => false,
-    }
+    key.is_some() && key == value
 }
 
 fn are_key_and_value(key: &FieldDescriptorProto, value: &FieldDescriptorProto) -> bool
@@ -81,8 +76,7 @@ fn are_key_and_value(key: &FieldDescriptorProto, value: &FieldDescriptorProto) -
 }
 
 /// The message type has two fields, an optional `key` of number 1, of an integer type, `bool` or
-/// `string`, and an optional
-/// `value` of number 2, which are not both in one oneof.
+/// `string`, and an optional `value` of number 2, which are not both in one oneof.
 pub fn has_entry_shape(message: &DescriptorProto) -> bool
     ensures { result ≡ is_shaped (parts_of message.now).field }
 {

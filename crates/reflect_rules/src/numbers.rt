@@ -4,27 +4,23 @@ ghost use Rattle.std.specs.Prelude.{◌≡◌, ◌∷◌, ◌++◌, [], OnOk, If
 ghost use Rattle.reflect_declarations.specs.Tree.{parts_of};
 ghost use Rattle.reflect_declarations.specs.Declarations.{entry};
 ghost use Rattle.reflect_names.specs.Faults.{Adds, place_at, place_of, duplicate_number};
-ghost use Rattle.reflect_scope.specs.FileIndexes.{is_index};
 ghost use Rattle.reflect_rules.specs.Numbers.{is_field_number as may_number, number_faults, reserved_faults, kept_faults, outside_faults, oneof_faults};
 ghost use Rattle.reflect_rules.specs.Repeats.{repeats, repeat_fault, listed, repeat_faults};
 
 use descriptor_records::{DescriptorProto, FieldDescriptorProto, MAX_FIELD_NUMBER, tag};
-use reflect_names::{DescriptorErrorKind, Faults, Label, VisitError, entry_path};
+use reflect_names::{DescriptorErrorKind, Faults, Label, VisitError, entry_path, is_index};
 use reflect_scope::FileIndex;
 use std::alloc::{AllocError, Global};
 use std::collections::BTreeSet;
-
-const LAST_NUMBER: u32 = MAX_FIELD_NUMBER as u32;
 
 /// A field may have the number: one from 1 to the highest that is not kept for protobuf's own use.
 fn is_field_number(number: i32) -> bool
     ensures { result ≡ may_number number }
 {
-    match u32::try_from(number) {
-        Ok(number) => {
-            1 <= number && number <= LAST_NUMBER && !(19_000 <= number && number <= 19_999)
-        }
-        Err(_) => false,
+    match number {
+        19_000..=19_999 => false,
+        1..=MAX_FIELD_NUMBER => true,
+        _ => false,
     }
 }
 
@@ -223,16 +219,6 @@ pub fn check_distinct(
     Ok(())
 }
 
-/// The index is one of a list of this many.
-fn is_place(index: i32, count: usize) -> bool
-    ensures { result ≡ is_index index count }
-{
-    match usize::try_from(index) {
-        Ok(place) => place < count,
-        Err(_) => false,
-    }
-}
-
 /// Lists a field's oneof that its message, which has so many of them, does not have.
 pub fn check_oneof(
     alloc: Global,
@@ -248,7 +234,7 @@ pub fn check_oneof(
     let Some(index) = field.oneof_index else {
         return Ok(());
     };
-    if is_place(index, oneofs) {
+    if is_index(index, oneofs) {
         return Ok(());
     }
     let found = faults.label_at(alloc, file, path, tag::field::ONEOF_INDEX)?;

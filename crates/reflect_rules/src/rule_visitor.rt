@@ -19,6 +19,7 @@ use reflect_scope::{
     EnumIndex, EnumValueIndex, ExtensionIndex, FieldIndex, FileIndex, MessageIndex, MethodIndex,
     OneofIndex, ServiceIndex,
 };
+use reflect_tables::{Syntax, syntax_of};
 use std::alloc::Global;
 use std::collections::BTreeMap;
 
@@ -102,10 +103,7 @@ impl<'a, T: Types> Visitor for RuleVisitor<'a, T> {
         _file: FileIndex,
         descriptor: &FileDescriptorProto,
     ) -> Result<(), VisitError> {
-        self.is_proto3 = match &descriptor.syntax {
-            Some(syntax) => syntax.as_str() == "proto3",
-            None => false,
-        };
+        self.is_proto3 = syntax_of(descriptor) == Syntax::Proto3;
         Ok(())
     }
 

@@ -1,8 +1,9 @@
 -- What the pool's entries stand for.
-use Rattle.std.specs.Prelude.{List, ℕ, [], map, cond, bytes_eq, codes, String, string_bytes, Option, Some, None}
+use Rattle.std.specs.Prelude.{List, ℕ, map, cond, bytes_eq, codes, String, string_bytes, Option, Some, None}
 use Rattle.std.specs.declared.alloc.Global.{Global}
 use Rattle.reflect_tables.specs.Types.{DefaultType, signed, unsigned, truth, text, octets, named, fraction, FieldType, OneofType, FileType, FilePlaces, ChildPlaces, MessageType, EnumType, ValueType, ExtensionType, MethodType, ServiceType, PoolType, KindType, double, float, int32, int64, uint32, uint64, sint32, sint64, fixed32, fixed64, sfixed32, sfixed64, bool, string, bytes, message, enumeration}
 use Rattle.descriptor_records.specs.declared.file.FileDescriptorProto.{FileDescriptorProto}
+pub use Rattle.descriptor_records.specs.Content.{text_of}
 use Rattle.reflect_tables.specs.declared.stored.StoredKind.{StoredKind}
 use Rattle.reflect_tables.specs.declared.stored.StoredKind.TheVariants as kinds
 use Rattle.reflect_tables.specs.declared.kind.Syntax.{Syntax}
@@ -158,11 +159,6 @@ service_of s = record {
   file = s.file;
   methods = map method_of s.methods.items;
 }
-
--- a text of a record, which is empty where it has none
-abbrev pub text_of : Option (String Global) → List ℕ
-text_of None = []
-text_of (Some s) = string_bytes s
 
 -- the syntax that a record names; without one it is proto2
 abbrev pub syntax_type : Option (String Global) → Syntax

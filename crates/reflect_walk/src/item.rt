@@ -7,7 +7,7 @@ ghost use Rattle.reflect_scope.specs.Means.{join};
 ghost use Rattle.reflect_walk.specs.Items.{placed};
 
 use crate::part::visit_parts;
-use crate::place::{item_path, list_index, name_in, next_index};
+use crate::place::{entry_path, name_in, next_index};
 use crate::visit_error::VisitError;
 use crate::visitor::Visitor;
 use descriptor_records::{EnumDescriptorProto, FieldDescriptorProto, ServiceDescriptorProto};
@@ -118,7 +118,7 @@ pub fn visit_items<V: Visitor, I: Item<V>>(
     ensures keeps { V.kept file visitor.old visitor.new }
 {
     'turns: for (at, item) in items.iter().enumerate() {
-        let place = item_path(alloc, path, tag, list_index(at)?)?;
+        let place = entry_path(alloc, path, tag, at)?;
         let number = next_index(count)?;
         item.visit(
             alloc,

@@ -12,6 +12,7 @@ mod visit_parts;
 mod visitor;
 
 pub use map_entry::says_map_entry;
+pub use place::entry_path;
 pub use reflect_declarations::Offsets;
 pub use visit_error::VisitError;
 pub use visit_files::visit_all;

@@ -5,7 +5,7 @@ use std::alloc::{AllocError, AllocFailed};
 /// Why a walk over a file's declarations ended early.
 #[derive(Clone, Copy, PartialEq, Eq, Debug)]
 pub enum VisitError {
-    /// An index past `i32::MAX`.
+    /// An index past `i32::MAX`; also what no files have whose references are resolved.
     TooMany,
     /// Want of memory.
     Memory,

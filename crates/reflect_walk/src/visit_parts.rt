@@ -1,15 +1,16 @@
 //! The walk through a file, message by message.
 
-ghost use Rattle.std.specs.Prelude.{◌≡◌, map, OnOk, IfOk};
-ghost use Rattle.reflect_declarations.specs.Tree.{tree_of, messages_of};
-ghost use Rattle.reflect_declarations.specs.Declarations.{Runs, past_tree, past_trees, past_file, tree_declarations, trees_declarations, file_declarations};
+ghost use Rattle.std.specs.Prelude.{◌≡◌, length, map, OnOk, IfOk};
+ghost use Rattle.reflect_declarations.specs.Tree.{parts_of, tree_of, messages_of};
+ghost use Rattle.reflect_declarations.specs.Declarations.{Runs, past_enums, past_extensions, past_services, past_tree, past_trees, past_file, tree_declarations, trees_declarations, file_declarations};
+ghost use Rattle.reflect_walk.specs.Items.{message_items, file_items};
 
 use crate::item::visit_items;
 use crate::part::visit_parts;
-use crate::place::{item_path, list_index, name_in, next_index, text_of};
+use crate::place::{entry_path, name_in, next_index};
 use crate::visit_error::VisitError;
 use crate::visitor::Visitor;
-use descriptor_records::{DescriptorProto, FileDescriptorProto, tag};
+use descriptor_records::{DescriptorProto, FileDescriptorProto, tag, text_of};
 use reflect_declarations::Offsets;
 use reflect_scope::{FileIndex, MessageIndex};
 use std::alloc::Global;
@@ -47,28 +48,7 @@ fn visit_message<V: Visitor>(
         Some(number),
         &message.nested_type,
     )?;
-    visit_items(
-        alloc,
-        visitor,
-        &mut offsets.enums,
-        path,
-        tag::message::ENUM_TYPE,
-        inner,
-        file,
-        Some(number),
-        &message.enum_type,
-    )?;
-    visit_items(
-        alloc,
-        visitor,
-        &mut offsets.extensions,
-        path,
-        tag::message::EXTENSION,
-        inner,
-        file,
-        Some(number),
-        &message.extension,
-    )?;
+    visit_message_items(alloc, visitor, offsets, path, inner, file, number, message)?;
     visit_parts(
         alloc,
         visitor,
@@ -101,7 +81,7 @@ fn visit_messages<V: Visitor>(
     ensures keeps { V.kept file visitor.old visitor.new }
 {
     'turns: for (at, message) in messages.iter().enumerate() {
-        let place = item_path(alloc, path, tag, list_index(at)?)?;
+        let place = entry_path(alloc, path, tag, at)?;
         visit_message(
             alloc,
             visitor,
@@ -148,6 +128,70 @@ pub fn visit<V: Visitor>(
         None,
         &file.message_type,
     )?;
+    visit_file_items(alloc, visitor, &mut offsets, scope, file_index, file)?;
+    Ok(offsets)
+}
+
+/// Visits the enums and the extensions of a message.
+fn visit_message_items<V: Visitor>(
+    alloc: Global,
+    visitor: &mut V,
+    offsets: &mut Offsets,
+    path: &[i32],
+    scope: &str,
+    file: FileIndex,
+    index: MessageIndex,
+    message: &DescriptorProto,
+) -> Result<(), VisitError>
+    ensures runs { OnOk result (Runs V.steps visitor.old
+        (message_items path.now scope.now file index offsets.old (parts_of message.now))
+        visitor.new) }
+    ensures counts { OnOk result (offsets.new ≡ past_extensions
+        (past_enums offsets.old (length (parts_of message.now).enum_type))
+        (length (parts_of message.now).extension)) }
+    ensures keeps { V.kept file visitor.old visitor.new }
+{
+    visit_items(
+        alloc,
+        visitor,
+        &mut offsets.enums,
+        path,
+        tag::message::ENUM_TYPE,
+        scope,
+        file,
+        Some(index),
+        &message.enum_type,
+    )?;
+    visit_items(
+        alloc,
+        visitor,
+        &mut offsets.extensions,
+        path,
+        tag::message::EXTENSION,
+        scope,
+        file,
+        Some(index),
+        &message.extension,
+    )?;
+    Ok(())
+}
+
+/// Visits the enums, the services and the extensions of a file.
+fn visit_file_items<V: Visitor>(
+    alloc: Global,
+    visitor: &mut V,
+    offsets: &mut Offsets,
+    scope: &str,
+    file_index: FileIndex,
+    file: &FileDescriptorProto,
+) -> Result<(), VisitError>
+    ensures runs { OnOk result (Runs V.steps visitor.old
+        (file_items scope.now file_index offsets.old file.now) visitor.new) }
+    ensures counts { OnOk result (offsets.new ≡ past_extensions
+        (past_services (past_enums offsets.old (length file.now.enum_type.items))
+        (length file.now.service.items)) (length file.now.extension.items)) }
+    ensures keeps { V.kept file_index visitor.old visitor.new }
+{
     visit_items(
         alloc,
         visitor,
@@ -181,5 +225,5 @@ pub fn visit<V: Visitor>(
         None,
         &file.extension,
     )?;
-    Ok(offsets)
+    Ok(())
 }

@@ -66,6 +66,18 @@ pushed levels bytes rest behind more key fs f found read value number =
       found.2 ∙ ap (λ r. found.0 ++ r) read.2 ∙ ap (λ r. found.0 ++ (read.0 ++ r)) value.2 ∙ simp append_assoc,
     )
 
+-- the same, of a record that was read as one
+pub pushed_field : (levels : ℕ) (bytes rest more : List ℕ) (fs : List UnknownField) (f : UnknownField) → Fronts (SpellsRecords levels) bytes (records_view fs) rest
+    → Fronts (IsField levels) rest (field_view f) more → Fronts (SpellsRecords levels) bytes (records_view (fs ++ f ∷ [])) more
+pushed_field levels bytes rest more fs f found field =
+    let key = field.1.0 in
+    let value = field.1.1 in
+    let whole = spells_push levels (field_view f).0 found.0 key value (map field_view fs) (field_view f).1 found.1 field.1.2 field.1.3 in (
+      found.0 ++ (key ++ value),
+      subst (λ rs. SpellsRecords levels (found.0 ++ (key ++ value)) (records_of rs)) (sym (map-push fs f)) whole,
+      found.2 ∙ ap (λ r. found.0 ++ r) field.2 ∙ ap (λ r. found.0 ++ (r ++ more)) field.1.4 ∙ sym (append_assoc found.0 (key ++ value) more),
+    )
+
 -- no value of its form stands where none of its payloads does
 pub no_delimited : (levels : ℕ) (key : WireKey) (bytes : List ℕ) → key.wire ≡ LengthDelimited → NoFront IsDelimited bytes → NoFront (IsValue levels key) bytes
 no_delimited levels key bytes wire none f more (delimited d) h e = none f more d h.1 e

@@ -2,7 +2,7 @@
 use Rattle.std.proofs.Common.{◌≡◌, ℕ, List, [], ◌∷◌, ◌++◌, refl, sym, ap, ◌∙◌, subst, append_assoc}
 use Rattle.reflect_wire.specs.Reads.{Fronts, NoFront}
 use Rattle.reflect_wire.specs.Key.{IsKey}
-use Rattle.reflect_wire.specs.Records.{Payload, Records, no_records, more_records, key_of, wire_of, SpellsPayload, SpellsRecords, IsValue}
+use Rattle.reflect_wire.specs.Records.{Payload, Records, no_records, more_records, key_of, wire_of, SpellsPayload, SpellsRecords, IsField, IsValue}
 use Rattle.reflect_wire.specs.declared.wire_key.WireKey.{WireKey}
 use Rattle.reflect_wire.proofs.Unique.{one_key, one_payload}
 
@@ -55,3 +55,8 @@ module _ (levels : ℕ) (bytes rest : List ℕ) (done : Records) (found : Fronts
       let n = next rs h in
       let one = one_key read.0 n.1 behind (n.2 ++ n.3) key n.0 read.1 n.5 (sym read.2 ∙ n.8) in
       none n.2 n.3 n.4 (ap (λ (c : WireKey). c.wire) one.1 ∙ n.6, subst (λ (c : WireKey). SpellsPayload levels c.number n.2 n.4) (sym one.1) n.7) one.2
+
+  pub no_field_no_records : NoFront (IsField levels) rest → (rs : Records) → SpellsRecords levels bytes rs → ⊥
+  no_field_no_records none rs h =
+      let n = next rs h in
+      none (n.1 ++ n.2) n.3 (n.0.number, n.4) (n.1, n.2, subst (IsKey n.1) (ap (key_of n.0.number) n.6) n.5, n.7, refl) (n.8 ∙ sym (append_assoc n.1 n.2 n.3))

@@ -1,5 +1,5 @@
 //! Readers: each takes bytes and gives the value at their front and the bytes behind it.
-ghost use Rattle.std.specs.Prelude.{◌≡◌, ◌<◌, ◌≤◌, ◌+◌, ◌*◌, IfErr, IfSome};
+ghost use Rattle.std.specs.Prelude.{◌≡◌, ◌<◌, ◌≤◌, ◌+◌, ◌*◌, ◌%◌, ◌^◌, IfErr, IfSome};
 ghost use Rattle.reflect_wire.specs.Faults.{VarintFault, KeyFault, DelimitedFault, FixedFault};
 ghost use Rattle.reflect_wire.specs.Reads.{Fronts, ReadsFront, ReadsBy};
 ghost use Rattle.reflect_wire.specs.Varint.{IsVarintWithin, IsVarint};
@@ -73,8 +73,7 @@ fn three_bytes_at(bytes: &[u8]) -> Option<(u64, &[u8])>
 /// The base-128 varint at the front, in at most ten bytes ("Encoding", Base 128 Varints).
 ///
 /// A spelling that is longer than it needs to be is accepted. `Truncated` where the bytes end
-/// inside the number,
-/// `BadVarint` where it has more than ten bytes or does not fit 64 bits.
+/// inside the number, `BadVarint` where it has more than ten bytes or does not fit 64 bits.
 #[inline]
 pub fn varint_at(bytes: &[u8]) -> Result<(u64, &[u8]), WireError>
     ensures read { ReadsFront IsVarint bytes.now result }
@@ -157,4 +156,12 @@ pub fn fixed64_at(bytes: &[u8]) -> Result<(u64, &[u8]), WireError>
         Some((front, rest)) => Ok((u64::from_le_bytes(*front), rest)),
         None => Err(WireError::Truncated),
     }
+}
+
+/// The low half of a number, which is what counts of it where a field has 32 bits.
+#[inline]
+pub fn low_half(n: u64) -> u32
+    ensures { result ≡ n % 2 ^ 32 }
+{
+    (n % (1 << 32)) as u32
 }

@@ -344,13 +344,7 @@ impl UnknownFieldSet {
         let mut set = UnknownFieldSet::new(alloc);
         let mut rest = bytes;
         while !rest.is_empty() {
-            let (key, behind) = key_at(rest)?;
-            let (value, behind) = value_at(alloc, key, behind, MAX_LEVELS)?;
-            set.insert(UnknownField {
-                number: key.number,
-                value,
-            })?;
-            rest = behind;
+            set.insert(UnknownField::decode(alloc, &mut rest, 0)?)?;
         }
         Ok(set)
     }

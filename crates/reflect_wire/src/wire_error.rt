@@ -10,14 +10,23 @@ use std::fmt;
 /// The rules behind the refusals stand in "Encoding" at protobuf.dev.
 #[derive(Clone, Copy, Debug, PartialEq, Eq)]
 pub enum WireError {
+    /// The bytes end inside a record.
     Truncated,
+    /// A varint of more than ten bytes, or of more than 64 bits.
     BadVarint,
+    /// A key with a number that no field has, or with no wire type.
     BadKey,
+    /// A record of a field, in a form that is not that of its kind.
     BadWireType,
+    /// An end of a group where none began, or with the number of another.
     EndGroupMismatch,
+    /// Messages and groups nest more than 100 levels deep.
     TooDeep,
+    /// A string that is not UTF-8.
     BadUtf8,
+    /// A length past the greatest that can be written.
     TooLong,
+    /// Want of memory.
     Memory,
 }
 

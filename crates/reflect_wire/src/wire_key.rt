@@ -1,11 +1,17 @@
 /// The form in which a record's value is written.
 #[derive(Clone, Copy, Debug, PartialEq, Eq)]
 pub enum WireType {
+    /// A number of at most ten bytes, seven bits in each.
     Varint,
+    /// Eight bytes, the lowest first.
     SixtyFourBit,
+    /// A length, and so many bytes.
     LengthDelimited,
+    /// The records behind are those of a group, up to its end tag.
     StartGroup,
+    /// The end tag of a group.
     EndGroup,
+    /// Four bytes, the lowest first.
     ThirtyTwoBit,
 }
 

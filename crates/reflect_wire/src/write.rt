@@ -1,8 +1,9 @@
 //! Writers: each appends the one written form of a value, and each form's length is offered beside
-//! it.
+//! it. They are refused for want of memory alone; what stood before stays then, and a part of the
+//! value may stand behind it.
 ghost use Rattle.std.specs.Prelude.{◌≡◌, ◌<◌, ◌+◌, ◌^◌, ◌++◌, length, OnOk, OnErr, IfErr, IfNone, IfSome, IsOk, OnSome, SomeIff, take, vec_len, vec_capacity, ◌≤◌};
 ghost use Rattle.reflect_wire.specs.declared.wire_error.WireError.TheVariants.{TooLong, Memory};
-ghost use Rattle.std.specs.Int.{w32, w64, to_le_bytes};
+ghost use Rattle.std.specs.Int.{w32, w64, cast_unsigned, to_le_bytes};
 ghost use Rattle.reflect_wire.specs.Key.{key_code};
 ghost use Rattle.reflect_wire.specs.Encoding.{varint_bytes, key_bytes, delimited_bytes, KeepsFront};
 
@@ -10,7 +11,7 @@ use crate::wire_error::WireError;
 use crate::wire_key::{WireKey, WireType};
 use std::alloc::AllocError;
 
-/// How many bytes `push_varint` writes: 1 to 10.
+/// How many bytes a number's varint has: 1 to 10.
 pub fn varint_len(n: u64) -> usize
     ensures { result ≡ length (varint_bytes n) }
 {
@@ -24,7 +25,7 @@ pub fn varint_len(n: u64) -> usize
 }
 
 /// Appends the shortest base-128 varint of the number.
-pub fn push_varint(out: &mut Vec<u8>, n: u64) -> Result<(), AllocError>
+pub(crate) fn push_varint(out: &mut Vec<u8>, n: u64) -> Result<(), AllocError>
     ensures ok { OnOk result (out.new.items ≡ out.old.items ++ varint_bytes n) }
     ensures err { OnErr result (KeepsFront out.old.items out.new.items) }
 {
@@ -37,8 +38,17 @@ pub fn push_varint(out: &mut Vec<u8>, n: u64) -> Result<(), AllocError>
     Ok(())
 }
 
+/// The number that a signed one of 32 bits is written as: a negative one has the upper bits set.
+#[inline]
+pub fn sign_extended(n: i32) -> u64
+    ensures { result ≡ cast_unsigned w64 n }
+{
+    i64::from(n).cast_unsigned()
+}
+
 /// The number that a key is written as.
-fn code_of_key(key: WireKey) -> u64
+#[inline]
+pub fn code_of_key(key: WireKey) -> u64
     ensures { result ≡ key_code key }
 {
     let wire = match key.wire {
@@ -85,7 +95,7 @@ pub fn push_delimited(out: &mut Vec<u8>, payload: &[u8]) -> Result<(), AllocErro
 }
 
 /// Appends four bytes, the lowest first.
-pub fn push_fixed32(out: &mut Vec<u8>, n: u32) -> Result<(), AllocError>
+pub(crate) fn push_fixed32(out: &mut Vec<u8>, n: u32) -> Result<(), AllocError>
     ensures ok { OnOk result (out.new.items ≡ out.old.items ++ to_le_bytes w32 n) }
     ensures err { OnErr result (KeepsFront out.old.items out.new.items) }
 {
@@ -94,7 +104,7 @@ pub fn push_fixed32(out: &mut Vec<u8>, n: u32) -> Result<(), AllocError>
 }
 
 /// Appends eight bytes, the lowest first.
-pub fn push_fixed64(out: &mut Vec<u8>, n: u64) -> Result<(), AllocError>
+pub(crate) fn push_fixed64(out: &mut Vec<u8>, n: u64) -> Result<(), AllocError>
     ensures ok { OnOk result (out.new.items ≡ out.old.items ++ to_le_bytes w64 n) }
     ensures err { OnErr result (KeepsFront out.old.items out.new.items) }
 {
@@ -106,7 +116,7 @@ pub fn push_fixed64(out: &mut Vec<u8>, n: u64) -> Result<(), AllocError>
 ///
 /// `TooLong` where there is no such number, `Memory` where there is no room. The bytes stay,
 /// whatever the answer.
-pub fn reserve_room(out: &mut Vec<u8>, len: Option<usize>) -> Result<(), WireError>
+pub(crate) fn reserve_room(out: &mut Vec<u8>, len: Option<usize>) -> Result<(), WireError>
     ensures items { out.new.items ≡ out.old.items }
     ensures room { IfSome len (λ n. OnOk result (vec_len out.new + n ≤ vec_capacity out.new)) }
     ensures err { IfNone len (result ≡ Err TooLong) }
@@ -122,7 +132,7 @@ pub fn reserve_room(out: &mut Vec<u8>, len: Option<usize>) -> Result<(), WireErr
 }
 
 /// Ends a writing that began at `start`: where it was refused, what it wrote is taken back.
-pub fn keep_written(
+pub(crate) fn keep_written(
     out: &mut Vec<u8>,
     start: usize,
     written: Result<(), AllocError>,

@@ -11,7 +11,9 @@ use std::fmt;
 /// Why a file was not read.
 #[derive(Clone, Copy, PartialEq, Eq, Debug)]
 pub enum ReadFault {
+    /// It is not there, or cannot be read.
     Read,
+    /// Want of memory.
     Memory,
 }
 
@@ -28,6 +30,7 @@ pub enum FileFault {
     Read(String),
     /// The source of this name, or the file at this path, is not UTF-8.
     NotUtf8(String),
+    /// Want of memory.
     Memory,
 }
 

@@ -22,10 +22,15 @@ use std::io::{ErrorKind, Read, Write};
 pub enum Fault {
     /// The schema refuses it.
     Schema(SchemaError),
+    /// Wire bytes were to come as hexadecimal text, and what came is none.
     NotHex,
+    /// A text was to come, and what came is not UTF-8.
     NotUtf8,
+    /// The input cannot be read.
     Read,
+    /// The output cannot be written.
     Write,
+    /// Want of memory.
     Memory,
 }
 
@@ -96,12 +101,10 @@ fn write_all<W: Write>(output: &mut W, bytes: &[u8]) -> Result<(), Fault>
     ensures ok { OnOk result (Appends (W.contents output.old) (W.contents output.new) bytes.now) }
     ensures err { IfErr result (λ f. f ≡ fault.Write) }
 {
-    match output.write_all(bytes) {
-        Ok(()) => match output.flush() {
-            Ok(()) => Ok(()),
-            Err(_) => Err(Fault::Write),
-        },
-        Err(_) => Err(Fault::Write),
+    if output.write_all(bytes).is_ok() && output.flush().is_ok() {
+        Ok(())
+    } else {
+        Err(Fault::Write)
     }
 }
 
@@ -110,10 +113,7 @@ fn utf8(bytes: &[u8]) -> Result<&str, Fault>
     ensures ok { IfOk result (λ text. (text.now ≡ bytes.now) × IsUtf8 bytes.now) }
     ensures err { IfErr result (λ f. (f ≡ fault.NotUtf8) × ¬ IsUtf8 bytes.now) }
 {
-    match str::from_utf8(bytes) {
-        Ok(text) => Ok(text),
-        Err(_) => Err(Fault::NotUtf8),
-    }
+    str::from_utf8(bytes).map_err(|_| Fault::NotUtf8)
 }
 
 /// A space or a line end's byte.

@@ -8,6 +8,7 @@ use schema_core::SchemaError;
 /// How a call on a slot ended.
 #[derive(Clone, Copy, PartialEq, Eq, Debug)]
 pub enum Code {
+    /// It did what was asked.
     Done,
     /// The slot holds nothing.
     Closed,

@@ -29,6 +29,7 @@ impl Model for Slot {
 }
 
 impl Slot {
+    /// A slot that holds nothing.
     pub fn empty() -> Slot
         ensures { result.value ≡ None }
     {

@@ -14,7 +14,7 @@ ghost use Rattle.text_lex.specs.Shown.{token_of};
 ghost use Rattle.text_lex.specs.Token.{token, token_at, fault};
 
 use crate::token::{Int, Token};
-use protox_lex::{LexError as SourceError, LexErrorKind, Span};
+use protox_lex::{Class, LexError as SourceError, LexErrorKind, Span, is_in, past};
 
 /// A token, and where it stands.
 #[derive(Clone, Copy)]
@@ -39,25 +39,6 @@ pub enum LexError {
     NoSpaceBetweenIntAndIdent(Span),
 }
 
-/// The end of the line that a comment stands in.
-fn comment_end(text: &[u8], at: usize) -> usize
-    requires { at ≤ length text.now }
-    ensures value { result ≡ past class.Line text.now at }
-    ensures within { (at ≤ result) × (result ≤ length text.now) }
-{
-    let mut end = at;
-    'run: while end < text.len() && text[end] != b'\n' {
-        end += 1;
-    }
-    end
-}
-
-fn is_blank(b: u8) -> bool
-    ensures { result ≡ is_in class.Blank b }
-{
-    matches!(b, b' ' | b'\t'..=b'\r')
-}
-
 /// The end of the gap that begins at a place: blanks, and comments from `#` to the end of the line.
 fn gap_end(text: &[u8], at: usize) -> usize
     requires { at ≤ length text.now }
@@ -71,8 +52,8 @@ fn gap_end(text: &[u8], at: usize) -> usize
     'gap: while end < text.len() {
         let b = text[end];
         if b == b'#' {
-            end = comment_end(text, end + 1);
-        } else if is_blank(b) {
+            end = past(Class::Line, text, end + 1);
+        } else if is_in(Class::Blank, b) {
             end += 1;
         } else {
             return end;
@@ -106,44 +87,6 @@ fn text_token<'a>(rest: &'a str, lexeme: protox_lex::Lexeme<'a>) -> Option<Token
     }
 }
 
-/// The end of the decimal digits that stand at a place.
-fn digits_end(text: &[u8], at: usize) -> usize
-    requires { at ≤ length text.now }
-    ensures value { result ≡ past class.Digit text.now at }
-    ensures within { (at ≤ result) × (result ≤ length text.now) }
-{
-    let mut end = at;
-    'run: while end < text.len() && text[end].is_ascii_digit() {
-        end += 1;
-    }
-    end
-}
-
-fn is_letter(b: u8) -> bool
-    ensures { result ≡ is_in class.Letter b }
-{
-    b.is_ascii_alphabetic() || b == b'_'
-}
-
-fn is_word(b: u8) -> bool
-    ensures { result ≡ is_in class.Word b }
-{
-    b.is_ascii_alphanumeric() || b == b'_'
-}
-
-/// The end of the letters and digits that stand at a place.
-fn word_end(text: &[u8], at: usize) -> usize
-    requires { at ≤ length text.now }
-    ensures value { result ≡ past class.Word text.now at }
-    ensures within { (at ≤ result) × (result ≤ length text.now) }
-{
-    let mut end = at;
-    'run: while end < text.len() && is_word(text[end]) {
-        end += 1;
-    }
-    end
-}
-
 /// The word in the front and its length.
 fn word(rest: &str) -> Option<(Token<'_>, usize)>
     requires some { 0 < length rest.now }
@@ -152,10 +95,10 @@ fn word(rest: &str) -> Option<(Token<'_>, usize)>
         ≡ Ok (token (token_of p.0), p.1)) }
 {
     let bytes = rest.as_bytes();
-    if !is_letter(bytes[0]) {
+    if !is_in(Class::Letter, bytes[0]) {
         return None;
     }
-    let end = word_end(bytes, 1);
+    let end = past(Class::Word, bytes, 1);
     Some((Token::Ident(&rest[..end]), end))
 }
 
@@ -167,7 +110,7 @@ fn is_at_letter_or_point(text: &[u8], at: usize) -> bool
     if at >= text.len() {
         return false;
     }
-    is_letter(text[at]) || text[at] == b'.'
+    is_in(Class::Letter, text[at]) || text[at] == b'.'
 }
 
 /// The decimal integer in the front and its length, where it does not begin with 0 and neither a
@@ -181,7 +124,7 @@ fn decimal(rest: &str) -> Option<(Token<'_>, usize)>
     if !bytes[0].is_ascii_digit() || bytes[0] == b'0' {
         return None;
     }
-    let end = digits_end(bytes, 0);
+    let end = past(Class::Digit, bytes, 0);
     if is_at_letter_or_point(bytes, end) {
         return None;
     }

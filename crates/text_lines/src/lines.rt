@@ -39,6 +39,7 @@ pub struct Items {
 }
 
 impl Items {
+    /// No item is printed yet.
     pub fn new(in_braces: bool) -> Items
         ensures { result ≡ record { in_braces = in_braces; any = false } }
     {

@@ -1,7 +1,7 @@
 ghost use Rattle.std.specs.Prelude.{◌≡◌};
 ghost use Rattle.text_lines.specs.Forms.{usual_form};
 
-/// In which form a message is printed.
+/// In which form a message is printed. What each field means is said by the method that sets it.
 #[derive(Clone, Copy, Debug)]
 pub struct FormatOptions {
     pub pretty: bool,

@@ -9,8 +9,9 @@ const MAX_PAYLOADS: u32 = 100;
 /// How many expanded messages may be printed in one another.
 const MAX_EXPANSIONS: u32 = 100;
 
-/// How many values may nest in what is read of bytes: in an expanded message, or in a payload that is
-/// printed as records. Each takes stack, and how deep they nest is for who made the bytes to say.
+/// How many values may nest in what is read of bytes: in an expanded message, or in a payload that
+/// is printed as records. Each takes stack, and how deep they nest is for who made the bytes to
+/// say.
 const MAX_LEVELS_READ: usize = 1_000;
 
 /// Where in the text something is printed.
@@ -28,6 +29,7 @@ pub struct Place {
 }
 
 impl Place {
+    /// At the start of a text.
     pub const TOP: Place = Place {
         indent: 0,
         levels: usize::MAX,

@@ -9,4 +9,4 @@ mod scalar;
 mod tokens;
 
 pub use names::{AnyName, Name};
-pub use tokens::{Brace, Tokens, through};
+pub use tokens::{Brace, Tokens};

@@ -8,7 +8,8 @@ ghost use Rattle.text_scalars.specs.Reading.{ReadsLexemes, and_then, seen_as};
 ghost use Rattle.text_scalars.specs.Refusals.{is_of_text};
 ghost use Rattle.text_scalars.specs.Remaining.{remaining};
 
-use crate::tokens::{Tokens, through};
+use crate::tokens::Tokens;
+use protox_lex::across;
 use text_error::ParseErrorKind;
 use text_lex::Span;
 
@@ -57,7 +58,7 @@ impl<'a> Tokens<'a> {
     {
         let first = self.full_name()?;
         if let Some(close) = self.eat(b']') {
-            return Ok((Name::Extension(first), through(opened, close)));
+            return Ok((Name::Extension(first), across(opened, close)));
         }
         if self.eat(b'/').is_none() {
             return Err(self.refuse("'.', ']' or '/'"));
@@ -70,7 +71,7 @@ impl<'a> Tokens<'a> {
             domain: first,
             message,
         };
-        Ok((Name::Any(name), through(opened, close)))
+        Ok((Name::Any(name), across(opened, close)))
     }
 
     /// Words with dots between them.

@@ -1,15 +1,15 @@
 //! Integers in the ranges of the kinds that hold them.
 
-ghost use Rattle.protox_lex.specs.Lex.{digit, short, value};
+ghost use Rattle.protox_lex.specs.Lex.{short, value};
 ghost use Rattle.protobuf_model.specs.Values.{int32, int64, uint32, uint64};
 ghost use Rattle.protobuf_model.specs.Types as kinds;
-ghost use Rattle.std.specs.Prelude.{◌≡◌, ◌<◌, ◌≤◌, IfOk, option_map, true};
+ghost use Rattle.std.specs.Prelude.{◌≡◌, ◌≤◌, IfOk, option_map, true};
 ghost use Rattle.text_model.specs.Scalars.{base, scalar_in};
 ghost use Rattle.text_scalars.specs.Number.{bounds_of, nameless, scalar_of, valued};
 ghost use Rattle.text_scalars.specs.Refusals.{is_of_text};
 ghost use Rattle.text_scalars.specs.Scalars.{IsBeyond};
 
-use protox_lex::Int as Number;
+use protox_lex::{Int as Number, digits_value};
 use std::alloc::{AllocError, Global};
 use text_error::ParseErrorKind;
 use text_lex::{Int, Radix, Span};
@@ -22,24 +22,28 @@ pub struct IntegerRange {
     pub max: &'static str,
 }
 
+/// Those of `int32`, `sint32` and `sfixed32`, and the numbers of enums.
 pub const SIGNED_32: IntegerRange = IntegerRange {
     expected: "a signed 32-bit integer",
     min: "-2147483648",
     max: "2147483647",
 };
 
+/// Those of `int64`, `sint64` and `sfixed64`.
 pub const SIGNED_64: IntegerRange = IntegerRange {
     expected: "a signed 64-bit integer",
     min: "-9223372036854775808",
     max: "9223372036854775807",
 };
 
+/// Those of `uint32` and `fixed32`.
 pub const UNSIGNED_32: IntegerRange = IntegerRange {
     expected: "an unsigned 32-bit integer",
     min: "0",
     max: "4294967295",
 };
 
+/// Those of `uint64` and `fixed64`.
 pub const UNSIGNED_64: IntegerRange = IntegerRange {
     expected: "an unsigned 64-bit integer",
     min: "0",
@@ -98,20 +102,6 @@ impl Literal<'_> {
     }
 }
 
-/// What a digit counts.
-fn digit_value(b: u8) -> u64
-    ensures value { result ≡ digit b }
-    ensures small { result < 256 }
-{
-    if b.is_ascii_digit() {
-        u64::from(b - b'0')
-    } else if b <= b'F' {
-        u64::from(b.saturating_sub(b'A' - 10))
-    } else {
-        u64::from(b.saturating_sub(b'a' - 10))
-    }
-}
-
 fn radix_of(radix: Radix) -> u64
     ensures value { result ≡ base radix }
     ensures within { (1 ≤ result) × (result ≤ 16) }
@@ -123,31 +113,11 @@ fn radix_of(radix: Radix) -> u64
     }
 }
 
-/// A number below this bound has at most 64 bits with a further digit too, in each radix.
-const SHORT: u64 = 1 << 59;
-
-/// The number that digits write, if it has at most 64 bits.
-fn magnitude(radix: u64, digits: &[u8]) -> Option<u64>
-    requires { (1 ≤ radix) × (radix ≤ 16) }
-    ensures { result ≡ short (value radix digits.now) }
-{
-    let mut n = 0u64;
-    for b in digits {
-        let digit = digit_value(*b);
-        n = if n < SHORT {
-            n * radix + digit
-        } else {
-            n.checked_mul(radix)?.checked_add(digit)?
-        };
-    }
-    Some(n)
-}
-
 /// The number that an integer's digits write, if it has at most 64 bits.
 pub fn magnitude_of(int: Int<'_>) -> Option<u64>
     ensures { result ≡ short (value (base int.entry.radix) int.entry.digits.now) }
 {
-    magnitude(radix_of(int.radix), int.digits.as_bytes())
+    digits_value(radix_of(int.radix), int.digits.as_bytes())
 }
 
 /// A kind of these bounds does not hold the integer.

@@ -12,8 +12,8 @@ ghost use Rattle.text_scalars.specs.Scalars.{ReadsValue, RefusesInteger, Refuses
 use crate::number::{
     Literal, SIGNED_32, SIGNED_64, UNSIGNED_32, UNSIGNED_64, magnitude_of, out_of_range,
 };
-use crate::tokens::{Tokens, through};
-use protox_lex::unescape;
+use crate::tokens::Tokens;
+use protox_lex::{across, unescape};
 use text_error::ParseErrorKind;
 use text_lex::{Span, Token};
 
@@ -37,7 +37,7 @@ impl<'a> Tokens<'a> {
         };
         self.advance();
         let span = match minus {
-            Some(minus) => through(minus, lexeme.span),
+            Some(minus) => across(minus, lexeme.span),
             None => lexeme.span,
         };
         Ok(Literal {
@@ -47,6 +47,7 @@ impl<'a> Tokens<'a> {
         })
     }
 
+    /// An integer of 32 bits, which may have a sign. `IntegerValueOutOfRange` for another one.
     pub fn signed_32(&mut self) -> Result<(i32, Span), ParseErrorKind>
         ensures read { ReadsValue int32 (value_at nameless kinds.int32 (remaining self.old))
             result (remaining self.new) }
@@ -61,6 +62,7 @@ impl<'a> Tokens<'a> {
         }
     }
 
+    /// An integer of 64 bits, which may have a sign. `IntegerValueOutOfRange` for another one.
     pub fn signed_64(&mut self) -> Result<(i64, Span), ParseErrorKind>
         ensures read { ReadsValue int64 (value_at nameless kinds.int64 (remaining self.old))
             result (remaining self.new) }
@@ -75,6 +77,7 @@ impl<'a> Tokens<'a> {
         }
     }
 
+    /// An integer of 32 bits without a sign. `IntegerValueOutOfRange` for another one.
     pub fn unsigned_32(&mut self) -> Result<(u32, Span), ParseErrorKind>
         ensures read { ReadsValue uint32 (value_at nameless kinds.uint32 (remaining self.old))
             result (remaining self.new) }
@@ -89,6 +92,7 @@ impl<'a> Tokens<'a> {
         }
     }
 
+    /// An integer of 64 bits without a sign. `IntegerValueOutOfRange` for another one.
     pub fn unsigned_64(&mut self) -> Result<(u64, Span), ParseErrorKind>
         ensures read { ReadsValue uint64 (value_at nameless kinds.uint64 (remaining self.old))
             result (remaining self.new) }
@@ -147,7 +151,7 @@ impl<'a> Tokens<'a> {
             last = span;
         }
         self.no_fault()?;
-        Ok((bytes, through(first, last)))
+        Ok((bytes, across(first, last)))
     }
 
     /// The text of adjacent string literals.

@@ -4,7 +4,7 @@ ghost use Rattle.std.specs.Prelude.{◌≡◌, ◌∷◌, ◌<◌, ◌≤◌, op
 ghost use Rattle.text_lex.specs.Longest.{Lexes};
 ghost use Rattle.text_lex.specs.Shown.{token_of};
 ghost use Rattle.text_scalars.specs.Braces.{opening_brace};
-ghost use Rattle.text_scalars.specs.Front.{behind, begins_name, fault_at, first, from_to, is_over, is_sign, literal_in, next, rest_of, sees, sign_bytes, word_in};
+ghost use Rattle.text_scalars.specs.Front.{behind, begins_name, fault_at, first, is_over, is_sign, literal_in, next, rest_of, sees, sign_bytes, word_in};
 ghost use Rattle.text_scalars.specs.Left.{left};
 ghost use Rattle.text_scalars.specs.Refusals.{IsFaultAt, IsLexical, IsUnexpected, is_of_text};
 ghost use Rattle.text_scalars.specs.Remaining.{lexeme_of, remaining};
@@ -253,15 +253,5 @@ fn lexical_fault(error: LexError) -> ParseErrorKind
         LexError::NoSpaceBetweenIntAndIdent(span) => {
             ParseErrorKind::NoSpaceBetweenIntAndIdent { span }
         }
-    }
-}
-
-/// From the start of one token to the end of another.
-pub fn through(first: Span, last: Span) -> Span
-    ensures { result ≡ from_to first.start last.end }
-{
-    Span {
-        start: first.start,
-        end: last.end,
     }
 }

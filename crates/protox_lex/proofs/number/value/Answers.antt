@@ -14,7 +14,7 @@ pub returns-in_err-n : goal.returns-in_err-n
 returns-in_err-n c =
     let digits = c.args.digits.now in
     let le = value-more-le c.args.radix c.loop-b.b-index 0 digits (omega arith) (omega arith) in
-    c.from_residual-in_err-n.ensures ∙ sym (is_long (value c.args.radix digits) (over_sum _ c.loop-b.n _ c.args.radix (digit (get_or digits c.loop-b.b-index 0)) c.in_ok-checked_mul.field-0 (sym c.loop-b.invariant.0) (grind arith) (rw c.digit.ensures.value at c.in_err-n.ensures) le))
+    c.from_residual-in_err-n.ensures ∙ sym (is_long (value c.args.radix digits) (over_sum _ c.loop-b.n _ c.args.radix (digit (get_or digits c.loop-b.b-index 0)) c.in_ok-checked_mul.field-0 (sym c.loop-b.invariant.0) (grind arith) (rw c.digit-more.ensures.value at c.in_err-n.ensures) le))
 
 pub returns : goal.returns
 returns c =

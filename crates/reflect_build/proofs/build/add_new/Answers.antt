@@ -4,8 +4,11 @@ use Rattle.std.specs.List.{filter}
 use Rattle.std.proofs.lemmas.Grind.{common_steps}
 use Rattle.reflect_names.proofs.Declared.{err_from}
 use Rattle.reflect_passes.specs.Errors.{ListsFaults}
+use Rattle.reflect_tables.specs.declared.tables.Tables.{Tables}
 use Rattle.reflect_tables.specs.Views.{extension_of, file_of, pool_of}
+use Rattle.reflect_pool.specs.Linked.{IsLinked}
 use Rattle.reflect_build.specs.Accepted.{AddsNames, Faultless}
+use Rattle.reflect_build.specs.Parts.{StaysOrGrows}
 use Rattle.reflect_build.specs.Refusals.{CountsOf, Faulty}
 use Rattle.reflect_build.proofs.Refused.{mapped}
 use Rattle.reflect_build.proofs.Named.{FirstNumbers, linked_same}
@@ -24,10 +27,11 @@ returns-in_err-first-clause-held c =
 pub returns-then-is_err-clause-held : goal.returns-then-is_err-clause-held
 returns-then-is_err-clause-held c =
     let tables = c.args.parts.now.tables in
-    grows c.link-outcome.result (pool_of tables) (pool_of c.link-outcome.new.tables)
+    subst (λ (t : Tables). StaysOrGrows c.link-outcome.result (pool_of tables) (pool_of t)) (sym c.forget.ensures.tables)
+    (grows c.link-outcome.result (pool_of tables) (pool_of c.link-outcome.new.tables)
     (length tables.files.items) (sym (length-map tables.files.items file_of))
     (record { pooled = c.requires.fit.pooled; imports = c.requires.fit.imports })
-    c.link-outcome.ensures.unchanged c.link-outcome.ensures.grown
+    c.link-outcome.ensures.unchanged c.link-outcome.ensures.grown)
 
 pub returns-else-is_err-clause-held : goal.returns-else-is_err-clause-held
 returns-else-is_err-clause-held c =
@@ -39,19 +43,20 @@ returns-else-is_err-clause-held c =
 
 pub returns-then-is_err-clause-fit : goal.returns-then-is_err-clause-fit
 returns-then-is_err-clause-fit c =
-    let tables = c.args.parts.now.tables in
+    let old = c.args.parts.now in
+    let linked = c.link-outcome.new in
+    let new = c.forget.new.parts in
     let first = c.in_ok-first.first in
-    let start : first ≡ length tables.files.items = grind (arith, common_steps, c.in_ok-first.ensures.cases, c.len.ensures) in
-    let same : pool_of c.link-outcome.new.tables ≡ pool_of tables = err_from _ c.link-outcome.result (search rules) c.link-outcome.ensures.unchanged in
-    let items = c.link-outcome.new.tables.extensions.items in
-    let v = c.link-outcome.new.extension_numbers in
-    let w = c.forget_numbers.new.numbers in
-    let here : c.len-extensions.result ≡ length items = search rules in
-    let count : c.len-extensions.result ≡ length (map extension_of items) = here ∙ sym (length-map items extension_of) in
-    let few : FirstNumbers (length (map extension_of items)) v w = (c.forget_numbers.ensures.was_ordered, subst (λ n. w.entries ≡ filter (λ e. nat_lt e.1 n) v.entries) count c.forget_numbers.ensures.entries) in
-    linked_same tables (pool_of c.link-outcome.new.tables) c.args.parts.now.names c.forget_names.new.names c.args.parts.now.file_names c.link-outcome.new.file_names c.forget_files.new.file_names c.args.parts.now.extension_numbers v w
-    c.args.parts.now.links.items c.link-outcome.new.links.items c.truncate.new.self.items c.link-outcome.new.tables.messages.items first start same (λ t. c.forget_names.ensures t ∙ c.link-outcome.ensures.kept t) c.link-outcome.ensures.kept_files (c.forget_files.ensures.was_ordered, c.forget_files.ensures.entries) c.link-outcome.ensures.kept_numbers few
-    c.link-outcome.ensures.kept_links (search rules) (err_from _ c.link-outcome.result (search rules) c.link-outcome.ensures.same_messages) c.requires.fit
+    let start : first ≡ length old.tables.files.items = grind (arith, common_steps, c.in_ok-first.ensures.cases, c.len.ensures) in
+    let same : pool_of linked.tables ≡ pool_of old.tables = err_from _ c.link-outcome.result (search rules) c.link-outcome.ensures.unchanged in
+    let items = linked.tables.extensions.items in
+    let v = linked.extension_numbers in
+    let w = new.extension_numbers in
+    let few : FirstNumbers (length (map extension_of items)) v w = (c.forget.ensures.numbers_were_ordered, subst (λ n. w.entries ≡ filter (λ e. nat_lt e.1 n) v.entries) (sym (length-map items extension_of)) c.forget.ensures.numbers) in
+    let fit : IsLinked (pool_of linked.tables) new.names new.file_names w new.links.items linked.tables.messages.items = linked_same old.tables (pool_of linked.tables) old.names new.names old.file_names linked.file_names new.file_names old.extension_numbers v w
+    old.links.items linked.links.items new.links.items linked.tables.messages.items first start same (λ t. c.forget.ensures.names t ∙ c.link-outcome.ensures.kept t) c.link-outcome.ensures.kept_files (c.forget.ensures.files_were_ordered, c.forget.ensures.files) c.link-outcome.ensures.kept_numbers few
+    c.link-outcome.ensures.kept_links c.forget.ensures.links (err_from _ c.link-outcome.result (search rules) c.link-outcome.ensures.same_messages) c.requires.fit in
+    subst (λ (t : Tables). IsLinked (pool_of t) new.names new.file_names w new.links.items t.messages.items) (sym c.forget.ensures.tables) fit
 
 pub returns-then-is_err-clause-refused : goal.returns-then-is_err-clause-refused
 returns-then-is_err-clause-refused c =

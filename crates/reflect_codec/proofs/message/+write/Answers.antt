@@ -1,5 +1,5 @@
-use Rattle.std.proofs.Common.{◌≡◌, ◌++◌, [], ◌∷◌, refl, sym, ap, arith}
-use Rattle.reflect_codec.specs.Fields.{records_field, texts_field}
+use Rattle.std.proofs.Common.{◌≡◌, ◌++◌, [], ◌∷◌, refl, sym, ap, subst, arith}
+use Rattle.reflect_codec.specs.Fields.{payload_field, records_field, texts_field}
 use Rattle.reflect_codec.specs.Held.{held}
 use Rattle.reflect_codec.specs.Written.{field_bytes, oneof_bytes, enum_bytes, extension_range_bytes, reserved_range_bytes, message_bytes}
 use Rattle.reflect_codec.proofs.Messages.{weights, weights-push, message_bytes-out, records_step, then_part}
@@ -30,6 +30,7 @@ put_message_types-loop-last-preserved t c =
     let left : weights c.loop-last.left.now ≡ weights (c.in-Some.front.now ++ c.in-Some.last.now ∷ []) = ap weights c.in-Some.ensures.cases.0 in
     record {
       written = records_step message_bytes _ c.in-Some.front.now c.loop-last.left.now c.in-Some.last.now (held c.loop-last.out) (held c.put_length.new.self) _ c.in-Some.ensures.cases.0
-          (c.in_ok-put_length.ensures (message_bytes c.in-Some.last.now) (held c.loop-last.out) c.in_ok-put_message_type.ensures (sym c.len-end.ensures)) c.loop-last.invariant.written;
+          (subst (λ n. held c.put_length.new.self ≡ payload_field n (message_bytes c.in-Some.last.now) ++ held c.loop-last.out) c.unsigned_abs.ensures.value
+          (c.in_ok-put_length.ensures (message_bytes c.in-Some.last.now) (held c.loop-last.out) c.in_ok-put_message_type.ensures (sym c.len-end.ensures))) c.loop-last.invariant.written;
       lighter = omega (arith, grown, left, c.loop-last.invariant.lighter);
     }

@@ -951,7 +951,7 @@ message_value-returns-clause-bytes t c =
     let after : remaining c.open_brace.new.self ≡ behind ls = search rules in
     let closing = c.in-Some.closing in
     let close = c.in_ok-close.close in
-    ((c.in-Some.open, closing), brace, close, subst (λ l. ClosesAt (n - 1) closing l close) after c.in_ok-close.ensures.closed, c.through.ensures)
+    ((c.in-Some.open, closing), brace, close, subst (λ l. ClosesAt (n - 1) closing l close) after c.in_ok-close.ensures.closed, c.across.ensures)
 
 pub fields_to_brace-returns-in-Some-clause-closed :
     goal.fields_to_brace-returns-in-Some-clause-closed

@@ -4,14 +4,19 @@ use Rattle.reflect_names.proofs.Lines.{at_end, behind, past_end, past_other}
 use Rattle.reflect_names.proofs.label.line_start.Goals.{then-byte-eq10+else-left-le1, else-byte-eq10}
 use Rattle.reflect_names.proofs.label.line_start.Goals as goal
 
-pub returns-then-left-le1 : goal.returns-then-left-le1
-returns-then-left-le1 c =
+pub returns-then-left-le1-clause-start : goal.returns-then-left-le1-clause-start
+returns-then-left-le1-clause-start c =
     let i = c.bytes.index in
     let same = c.as_bytes-byte-items.ensures.value in
     sym (c.bytes.invariant.start
     ∙ at_end c.args.source.now i c.bytes.left (subst (λ l. i < length l) same c.bytes-test.true)
     c.bytes.invariant.more c.if-left-le1.true
     (subst (λ l. get_or l i 0 ≡ 10) same c.if-byte-eq10.true))
+
+pub returns-then-left-le1-clause-within : goal.returns-then-left-le1-clause-within
+returns-then-left-le1-clause-within c =
+    let lt = subst (λ l. c.bytes.index < length l) c.as_bytes-byte-items.ensures.value c.bytes-test.true in
+    omega (arith, lt)
 
 pub bytes-preserved : goal.bytes-preserved
 bytes-preserved c =

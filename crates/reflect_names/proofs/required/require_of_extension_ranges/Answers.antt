@@ -9,5 +9,5 @@ turns-preserved c =
     let xs = c.deref-range-items.result.now in
     let x = c.range-item.result in
     let t = c.turns.faults in
-    let now = subst (λ p. Adds t c.require_bounds.new.faults (bound_faults (place_at t c.args.file) p x.start x.end)) (c.as_slice.ensures.value ∙ c.in_ok-place.ensures) c.in_ok-require_bounds.ensures in
+    let now = subst (λ p. Adds t c.require_bounds.new.faults (bound_faults (place_at t c.args.file) p x.start x.end)) (c.as_slice.ensures.value ∙ c.in_ok-place.ensures.path) c.in_ok-require_bounds.ensures in
     adds_more (λ at. extension_range_faults at c.args.path.now) c.args.faults.now t c.require_bounds.new.faults c.args.file xs c.turns.at x (omega arith) c.range-item.is c.turns.invariant now

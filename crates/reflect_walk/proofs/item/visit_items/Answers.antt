@@ -9,9 +9,6 @@ use Rattle.reflect_walk.proofs.item.visit_items.Goals as goal
 pub turns-init : goal.turns-init
 turns-init g c = record { runs = refl; counts = omega arith; keeps = g.met.V.Visitor.kept_same c.args.file c.args.visitor.now }
 
-pub item_path-requires : goal.item_path-requires
-item_path-requires g c = c.in_ok-list_index.ensures.fits
-
 pub turns-preserved : goal.turns-preserved
 turns-preserved g c =
     let R = g.V.Visitor.steps in
@@ -25,7 +22,7 @@ turns-preserved g c =
     let file = c.args.file in
     let parent = c.args.parent in
     let first = c.args.count.now in
-    let place : c.as_slice.result.now ≡ entry path tag k = c.as_slice.ensures.value ∙ c.in_ok-place.ensures ∙ ap (entry path tag) c.in_ok-list_index.ensures.same in
+    let place : c.as_slice.result.now ≡ entry path tag k = c.as_slice.ensures.value ∙ c.in_ok-place.ensures.path in
     let number = c.in_ok-number.ensures.index ∙ c.turns.invariant.counts in
     let now = subst (λ p. Runs R c.turns.visitor (declared p scope file parent (first + k) x) c.visit.new.visitor) place
     (subst (λ n. Runs R c.turns.visitor (declared c.as_slice.result.now scope file parent n x) c.visit.new.visitor) number c.in_ok-visit.ensures.runs) in
@@ -51,15 +48,9 @@ returns g c =
       keeps = c.turns.invariant.keeps;
     }
 
-pub returns-in_err-list_index : goal.returns-in_err-list_index
-returns-in_err-list_index g c =
-    let r = c.from_residual in
-    let p = err_from_is_err_and r.result r.ensures.1 in
-    rw p.1 (record { runs = tt; counts = tt; keeps = c.turns.invariant.keeps })
-
 pub returns-in_err-place : goal.returns-in_err-place
 returns-in_err-place g c =
-    let r = c.from_residual-in_err-place in
+    let r = c.from_residual in
     let p = err_from_is_err_and r.result r.ensures.1 in
     rw p.1 (record { runs = tt; counts = tt; keeps = c.turns.invariant.keeps })
 

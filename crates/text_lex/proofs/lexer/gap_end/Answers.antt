@@ -8,7 +8,7 @@ use Rattle.text_lex.proofs.lexer.gap_end.Goals as goal
 pub gap-preserved-then-b-eq35 : goal.gap-preserved-then-b-eq35
 gap-preserved-then-b-eq35 c =
     let text = c.args.text.now in
-    let end = c.comment_end-end.ensures in
+    let end = c.past-end.ensures in
     record {
       least = omega (arith, c.gap.invariant.least, end.within.0);
       within = end.within.1;
@@ -18,5 +18,5 @@ gap-preserved-then-b-eq35 c =
 pub gap-preserved : goal.gap-preserved
 gap-preserved c =
     let text = c.args.text.now in
-    let blank : is_in class.Blank (slice_index text c.gap.end) ≡ true = sym c.is_blank.ensures ∙ c.if-is_blank.true in
+    let blank : is_in class.Blank (slice_index text c.gap.end) ≡ true = sym c.is_in.ensures ∙ c.if-is_in.true in
     record { least = omega (arith, c.gap.invariant.least); within = omega arith; passed = c.gap.invariant.passed ∙ blank_here c.gap.end text (omega arith) blank }

@@ -9,12 +9,12 @@ pub range-requires-clause-end_boundary : goal.range-requires-clause-end_boundary
 range-requires-clause-end_boundary c =
     let z = c.args.rest.now in
     let letter : is_in class.Letter (slice_index z 0) ≡ true = search rules in
-    let is : c.word_end-end.result ≡ past class.Word z 1 = c.word_end-end.ensures.value ∙ ap (λ t. past class.Word t 1) c.as_bytes-bytes.ensures.value in
+    let is : c.past-end.result ≡ past class.Word z 1 = c.past-end.ensures.value ∙ ap (λ t. past class.Word t 1) c.as_bytes-bytes.ensures.value in
     subst (IsCharBoundary z) (sym is) (word_boundary z c.utf8.rest c.requires.some letter)
 
 pub returns : goal.returns
 returns c at =
     let z = c.args.rest.now in
     let letter : is_in class.Letter (slice_index z 0) ≡ true = search rules in
-    let is : c.word_end-end.result ≡ past class.Word z 1 = c.word_end-end.ensures.value ∙ ap (λ t. past class.Word t 1) c.as_bytes-bytes.ensures.value in
+    let is : c.past-end.result ≡ past class.Word z 1 = c.past-end.ensures.value ∙ ap (λ t. past class.Word t 1) c.as_bytes-bytes.ensures.value in
     word_front at z c.requires.begins letter ∙ ap (λ n. Ok (token (ident (take n z)), n)) (sym is) ∙ search rules

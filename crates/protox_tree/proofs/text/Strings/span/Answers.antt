@@ -1,7 +1,7 @@
 use Rattle.std.proofs.Common.{rules, ◌≡◌, ◌<◌, ◌-◌, length, ap, sym, ◌∙◌}
 use Rattle.std.specs.Prelude.{get_or}
 use Rattle.protox_tree.proofs.Covers.{cover}
-use Rattle.protox_tree.specs.Places.{across}
+use Rattle.protox_lex.specs.Span.{across}
 use Rattle.protox_tree.specs.View.{literal_view}
 use Rattle.protox_tree.proofs.text.Strings.span.Goals as goal
 
@@ -11,6 +11,7 @@ returns c =
     let some : 0 < length ls = search rules in
     let first : c.index.result.now ≡ get_or ls 0 c.index.result.now = search rules in
     let last : c.index-2.result.now ≡ get_or ls (length ls - 1) c.index-2.result.now = search rules in
-    sym (cover literal_view (λ w. w.span) ls c.index.result.now c.index-2.result.now some
+    c.across.ensures
+    ∙ sym (cover literal_view (λ w. w.span) ls c.index.result.now c.index-2.result.now some
     ∙ ap (λ l. across l.span (get_or ls (length ls - 1) c.index-2.result.now).span) (sym first)
     ∙ ap (λ l. across c.index.result.now.span l.span) (sym last))

@@ -59,8 +59,8 @@ returns-clause-step c =
       message_heads =
           ap (map draft_head) c.in_ok-push.ensures.items
           ∙ map-append draft_head mid _
-          ∙ ap {B = List Head} (λ l. l ++ head_by c.in_ok-from_slice.field-0.items (string_bytes c.in_ok-text_of.field-0) (string_bytes full_name) c.args.file c.args.parent ∷ []) made.kept.heads
-          ∙ ap {B = List Head} (λ h. map draft_head old ++ h ∷ []) (head_same _ _ _ _ _ _ c.args.file c.args.parent c.in_ok-from_slice.ensures.items c.in_ok-text_of.ensures named);
+          ∙ ap {B = List Head} (λ l. l ++ head_by c.in_ok-from_slice.field-0.items (string_bytes c.in_ok-text_copy.field-0) (string_bytes full_name) c.args.file c.args.parent ∷ []) made.kept.heads
+          ∙ ap {B = List Head} (λ h. map draft_head old ++ h ∷ []) (head_same _ _ _ _ _ _ c.args.file c.args.parent c.in_ok-from_slice.ensures.items c.in_ok-text_copy.ensures named);
       enum_heads = refl;
       service_heads = refl;
       nested = λ k.

@@ -8,7 +8,7 @@ pub returns-clause-step : goal.returns-clause-step
 returns-clause-step c =
     let x : MethodType = record {
       path = c.in_ok-from_slice.field-0.items;
-      name = string_bytes c.in_ok-text_of.field-0;
+      name = string_bytes c.in_ok-text_copy.field-0;
       full_name = string_bytes c.in_ok-from_str.field-0;
       input = c.in_ok-input.input;
       output = c.in_ok-output.output;

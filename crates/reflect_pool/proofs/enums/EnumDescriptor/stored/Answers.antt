@@ -1,0 +1,7 @@
+use Rattle.reflect_pool.proofs.Within.{enum_within}
+use Rattle.reflect_pool.proofs.enums.EnumDescriptor.stored.Goals as goal
+
+pub returns-clause-within : goal.returns-clause-within
+returns-clause-within c =
+    let self = c.args.self.now in
+    enum_within c.pool.inside.tables self.pool.now self.index c.index.result.now c.pool.view_is c.pool.invariant.pooled self.in_range c.index.ensures
