@@ -1,4 +1,4 @@
-ghost use Rattle.std.specs.Prelude.{◌≡◌, ◌+◌, ◌<◌, ◌≤◌, IfErr, IfOk};
+ghost use Rattle.std.specs.Prelude.{◌≡◌, ◌+◌, ◌≤◌, ◌⊎◌, IfErr, IfOk};
 ghost use Rattle.text_lines.specs.declared.error.WriteError.TheVariants.{Memory};
 
 use crate::error::WriteError;
@@ -39,7 +39,7 @@ impl Place {
 
     /// One level deeper on the same line.
     pub fn deeper(self) -> Result<Place, WriteError>
-        ensures levels { IfOk result (λ p. p.levels < self.levels) }
+        ensures levels { IfOk result (λ p. self.levels ≡ p.levels + 1) }
         ensures place { IfOk result (λ p. p ≡ record self { levels = p.levels }) }
         ensures err { IfErr result (λ e. (e ≡ Memory) × (self.levels ≡ 0)) }
     {
@@ -49,16 +49,15 @@ impl Place {
         }
     }
 
-    /// The same place in what is read of bytes, which may nest less deep.
+    /// The same place in what is read of bytes, where at most a thousand more values nest.
     pub fn read(self) -> Place
         ensures levels { result.levels ≤ self.levels }
+        ensures bound { result.levels ≤ 1000 }
+        ensures as_many { (result.levels ≡ self.levels) ⊎ (result.levels ≡ 1000) }
         ensures place { result ≡ record self { levels = result.levels } }
     {
-        if self.levels <= MAX_LEVELS_READ {
-            return self;
-        }
         Place {
-            levels: MAX_LEVELS_READ,
+            levels: self.levels.min(MAX_LEVELS_READ),
             ..self
         }
     }
@@ -66,7 +65,7 @@ impl Place {
     /// In braces at this place. A line with more spaces than a `usize` counts is wanted for no text
     /// that memory holds.
     pub fn in_braces(self) -> Result<Place, WriteError>
-        ensures levels { IfOk result (λ p. p.levels < self.levels) }
+        ensures levels { IfOk result (λ p. self.levels ≡ p.levels + 1) }
         ensures place { IfOk result
             (λ p. p ≡ record self { indent = self.indent + 2; levels = p.levels }) }
         ensures err { IfErr result (λ e. e ≡ Memory) }
