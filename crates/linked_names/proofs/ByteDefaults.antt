@@ -21,7 +21,7 @@ use Rattle.text_laws.proofs.ScalarsSuit.{scalar_right}
 use Rattle.text_laws.proofs.Small.{AreSmall}
 use Rattle.message_view.specs.Singles.{single_view}
 use Rattle.message_view.specs.Types.{default_of}
-use Rattle.linked_messages.proofs.Defaults.{IsGiven}
+use Rattle.linked_view.proofs.DefaultValues.{IsGiven}
 
 -- ---- what a record says
 

@@ -29,9 +29,9 @@ use Rattle.message_view.proofs.Fields.{held_is}
 use Rattle.text_view.specs.SourceNames.{HasPartNames}
 use Rattle.source_records.specs.SourceNames.{IsPart, AreParts, IsEntry}
 use Rattle.reflect_index.proofs.Among.{Among, of_all, of_find, of_place, place_of, index_is, get_map}
-use Rattle.linked_messages.proofs.Declared.{declared_at}
-use Rattle.linked_messages.proofs.Defaults.{IsGiven}
-use Rattle.linked_messages.proofs.Parts.{HasNumberAt, has_places}
+use Rattle.linked_view.proofs.Declared.{declared_at}
+use Rattle.linked_view.proofs.DefaultValues.{IsGiven}
+use Rattle.linked_view.proofs.Parts.{HasNumberAt, has_places}
 use Rattle.linked_names.proofs.Batch.{ds}
 use Rattle.reflect_index.proofs.Behind.{get_in}
 use Rattle.linked_names.proofs.Sourced.{IsSourced, named_text}

@@ -14,7 +14,7 @@ use Rattle.text_model.specs.Printed.{lacks_presence}
 use Rattle.text_model.specs.Unset.{HasReadDefault, IsOfKind}
 use Rattle.message_view.specs.Singles.{single_view}
 use Rattle.message_view.specs.Types.{default_of, entry_part, frame_of, key_of, kind_in, label_of, oneof_at, part_of, place_in, values_of}
-use Rattle.linked_messages.proofs.Grown.{type_stays, entry_stays, default_stays}
+use Rattle.linked_view.proofs.Grown.{type_stays, entry_stays, default_stays}
 
 -- a name that stands for a place among the first types stands for it there
 pub place_stays : (ms more : List MessageType) (t : Name) → place_in (ms ++ more) t < length ms

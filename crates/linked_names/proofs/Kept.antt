@@ -17,7 +17,7 @@ use Rattle.protobuf_model.specs.Types.{oneof_of, same_oneof}
 use Rattle.message_view.specs.Types.{field_at, oneof_at}
 use Rattle.text_view.specs.SourceNames.{IsGroupField, HasPartNames}
 use Rattle.reflect_index.proofs.Among.{of_all, of_find, of_place, get_at}
-use Rattle.linked_messages.proofs.Grown.{type_stays, floats_stay, field_within}
+use Rattle.linked_view.proofs.Grown.{type_stays, floats_stay, field_within}
 use Rattle.linked_names.specs.SourcePools.{scope_in, scope_of, IsScoped}
 use Rattle.linked_names.proofs.Entries.{own_oneof}
 

@@ -22,7 +22,7 @@ use Rattle.message_view.proofs.Fields.{held_is}
 use Rattle.text_view.proofs.Places.{field_place}
 use Rattle.source_records.specs.LoneLists.{GivesLoneLists}
 use Rattle.reflect_index.proofs.Among.{Among, all_of, get_at, of_all, of_filter, of_place}
-use Rattle.linked_messages.proofs.Grown.{field_within}
+use Rattle.linked_view.proofs.Grown.{field_within}
 use Rattle.linked_names.proofs.Accepted.{all, b, enums_are, files_are, later_field, messages_are, no_field_there, which_type}
 use Rattle.linked_names.proofs.Kept.{known_same}
 use Rattle.linked_names.proofs.LoneLists.{IsLone, batch_lone}

@@ -39,8 +39,8 @@ use Rattle.text_model.specs.Printed.{parts}
 use Rattle.text_view.specs.SourceNames as pools
 use Rattle.source_records.specs.SourceNames.{IsSpelled, HasSpelledValues}
 use Rattle.reflect_index.proofs.Among.{Among, of_all, of_place, get_at, get_map, got_map, zip_place}
-use Rattle.linked_messages.proofs.Declared.{InMessage, in_message, stands_in_batch}
-use Rattle.linked_messages.proofs.Defaults.{IsHeld}
+use Rattle.linked_view.proofs.Declared.{InMessage, in_message, stands_in_batch}
+use Rattle.linked_view.proofs.DefaultValues.{IsHeld}
 use Rattle.linked_view.proofs.Accepted.{kept_at}
 use Rattle.linked_view.proofs.Extended.{number_is}
 use Rattle.linked_names.specs.SourcePools.{scope_in, scope_of, IsScoped}

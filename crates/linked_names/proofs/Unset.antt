@@ -36,7 +36,7 @@ use Rattle.text_view.proofs.Set.{map_repeats}
 use Rattle.source_records.specs.LoneLists.{IsLoneList}
 use Rattle.reflect_index.proofs.Among.{Among}
 use Rattle.reflect_index.proofs.Declared.{FieldDeclared, of_along}
-use Rattle.linked_messages.proofs.Defaults.{default_has}
+use Rattle.linked_view.proofs.DefaultValues.{default_has}
 use Rattle.linked_view.proofs.Extended.{number_is}
 use Rattle.linked_names.specs.Presence.{HasMessagePresence}
 use Rattle.linked_names.proofs.Accepted.{single_present}

@@ -30,9 +30,9 @@ use Rattle.reflect_passes.specs.NameFaults.{name_faults}
 use Rattle.reflect_passes.specs.declared.linked_types.LinkedTypes.{LinkedTypes}
 use Rattle.reflect_build.specs.Accepted.{FaultlessBatch, FaultlessFiles}
 use Rattle.reflect_build.specs.Refusals.{AreTypes, Linking, with_declared, IsOf, new_files}
-use Rattle.linked_messages.specs.Kept.{IsKept}
+use Rattle.linked_view.specs.Kept.{IsKept}
 use Rattle.reflect_index.proofs.Among.{Among, all_of, get_map, got_map}
-use Rattle.linked_messages.proofs.Declared.{stands_in_batch, declared_at}
+use Rattle.linked_view.proofs.Declared.{stands_in_batch, declared_at}
 use Rattle.schema_view.specs.Outlines.{outline_of}
 use Rattle.schema_view.specs.Files.{file_name}
 use Rattle.schema_view.specs.References.{Reference as Naming, references}

@@ -21,7 +21,7 @@ use Rattle.reflect_tables.proofs.Founds.{front}
 use Rattle.reflect_declarations.specs.Batches.{batch_declarations}
 use Rattle.reflect_build.specs.Accepted.{FaultlessBatch, FaultlessFiles}
 use Rattle.reflect_build.specs.Refusals.{Linking, with_declared, IsOf, new_files}
-use Rattle.linked_messages.specs.Kept.{IsKept}
+use Rattle.linked_view.specs.Kept.{IsKept}
 use Rattle.schema_view.specs.Declarations.{Body, of_enum, declarations}
 use Rattle.schema_view.specs.Lawful.{outlines, SuitsEnum}
 use Rattle.schema_view.specs.Outlines.{value_name, sort_of, enum_sort, Head, head_of, Outline, outline_of, IsDeclared}

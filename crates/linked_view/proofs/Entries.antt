@@ -13,7 +13,7 @@ use Rattle.reflect_tables.specs.Types.{PoolType}
 use Rattle.reflect_declarations.specs.Batches.{batch_declarations}
 use Rattle.reflect_build.specs.Accepted.{FaultlessBatch}
 use Rattle.reflect_build.specs.Refusals.{Linking, with_declared, IsOf, new_files}
-use Rattle.linked_messages.specs.Kept.{IsKept}
+use Rattle.linked_view.specs.Kept.{IsKept}
 use Rattle.schema_view.specs.Declarations.{Body, of_message, Declaration, declarations}
 use Rattle.schema_view.specs.References.{linked}
 use Rattle.schema_view.proofs.Lists.{contains_map, contains_map_cases}

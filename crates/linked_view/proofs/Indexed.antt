@@ -12,7 +12,7 @@ use Rattle.reflect_declarations.specs.Batches.{batch_declarations}
 use Rattle.reflect_known.specs.KnownNames.{kind_of, definition_of, nothing_before, known_of_files}
 use Rattle.reflect_index.specs.OfDeclarations.{messages_in}
 use Rattle.reflect_index.proofs.Among.{Among}
-use Rattle.linked_messages.proofs.Declared.{stands_in_batch}
+use Rattle.linked_view.proofs.Declared.{stands_in_batch}
 use Rattle.schema_view.specs.Declarations as view
 use Rattle.schema_view.specs.Lawful.{outlines}
 use Rattle.schema_view.specs.Outlines.{sort_of, head_of, outline_of, IsDeclared}

@@ -7,7 +7,7 @@ use Rattle.reflect_tables.specs.Types.{PoolType}
 use Rattle.reflect_pool.specs.Linked.{empty_pool}
 use Rattle.reflect_build.specs.Accepted.{FaultlessFiles}
 use Rattle.reflect_build.specs.Refusals.{new_files}
-use Rattle.linked_messages.specs.Kept.{IsKept}
+use Rattle.linked_view.specs.Kept.{IsKept}
 use Rattle.schema_view.specs.Files.{IsThere, imports_of}
 use Rattle.schema_view.specs.Declarations.{Body, of_field, of_method, of_extension, Declaration, declarations}
 use Rattle.schema_view.specs.References.{Reference, Target, rename_message_type, rename_type, fill_type, dotted, linked}

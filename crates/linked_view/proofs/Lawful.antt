@@ -86,7 +86,7 @@ use Rattle.linked_view.proofs.Valued.{all_values}
 use Rattle.linked_view.proofs.Walked.{facts_in, seen_body}
 use Rattle.reflect_pool.specs.Linked.{empty_pool}
 use Rattle.linked_view.proofs.Together.{empty_built}
-use Rattle.linked_messages.proofs.Stays.{empty_sound}
+use Rattle.linked_view.proofs.Stays.{empty_sound}
 
 module _ (old : PoolType) (w : Linking) (ns : List FileDescriptorProto) (meanings : Meanings)
     (has : IsWellNamed old) (is : IsOf old w)

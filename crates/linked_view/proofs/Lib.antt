@@ -54,3 +54,18 @@ pub mod Used
 pub mod Valued
 pub mod Values
 pub mod Walked
+pub mod Following
+pub mod Declared
+pub mod DefaultValues
+pub mod Faultless
+pub mod FieldNumbers
+pub mod Apart
+pub mod Parts
+pub mod Ranges
+pub mod RuledEntries
+pub mod Fields
+pub mod Grown
+pub mod SoundPools
+pub mod SoundBatches
+pub mod Stays
+mod SoundExample

@@ -23,8 +23,8 @@ use Rattle.reflect_tables.specs.declared.stored.StoredMessage.{StoredMessage}
 use Rattle.reflect_declarations.specs.Batches.{batch_declarations}
 use Rattle.reflect_declarations.specs.Declarations as walk
 use Rattle.reflect_walk.specs.MapEntries.{says_entry}
-use Rattle.linked_messages.specs.Kept.{IsKept}
-use Rattle.linked_messages.proofs.Declared.{declared_at, stands_in_batch}
+use Rattle.linked_view.specs.Kept.{IsKept}
+use Rattle.linked_view.proofs.Declared.{declared_at, stands_in_batch}
 use Rattle.schema_view.specs.Declarations.{MessageFacts}
 use Rattle.schema_view.specs.Lawful.{Meanings, all_linked}
 use Rattle.schema_view.specs.Rules.{SaysEntry}

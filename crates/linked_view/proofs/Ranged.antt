@@ -16,7 +16,7 @@ use Rattle.reflect_tables.specs.declared.tables.Tables.{Tables}
 use Rattle.reflect_declarations.specs.Batches.{batch_declarations}
 use Rattle.reflect_build.specs.Accepted.{FaultlessBatch, FaultlessFiles}
 use Rattle.reflect_build.specs.Refusals.{AreTypes, Linking, with_declared, IsOf, new_files}
-use Rattle.linked_messages.specs.Kept.{IsKept}
+use Rattle.linked_view.specs.Kept.{IsKept}
 use Rattle.schema_view.specs.Declarations.{Body, of_message, Declaration, declarations}
 use Rattle.schema_view.specs.Lawful.{outlines}
 use Rattle.schema_view.specs.References.{linked}

@@ -26,7 +26,7 @@ use Rattle.schema_view.specs.Scalars.{is_scalar, IsScalarDefault}
 use Rattle.schema_view.specs.Rules.{is_number, HasFieldNumber, HasOneof, HasType}
 use Rattle.schema_view.proofs.Renames.{map_same}
 use Rattle.linked_view.specs.Ruled.{IsRuledMessage, IsRuledField, IsRuled, IsPlacedField, IsNewer, IsMetField, IsExtensionNumber, IsMet}
-use Rattle.linked_messages.proofs.Numbers.{none_found, none_found_in}
+use Rattle.linked_view.proofs.FieldNumbers.{none_found, none_found_in}
 use Rattle.linked_view.proofs.Completes.{IsCompleteBody}
 use Rattle.linked_view.proofs.Defaults.{scalar_only, suited_to, suited_from}
 use Rattle.linked_view.proofs.Enums.{enum_to, enum_from}

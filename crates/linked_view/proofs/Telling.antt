@@ -18,7 +18,7 @@ use Rattle.reflect_tables.proofs.Founds.{front}
 use Rattle.reflect_build.proofs.Stored.{zip_both}
 use Rattle.reflect_build.specs.Accepted.{FaultlessBatch, FaultlessFiles}
 use Rattle.reflect_build.specs.Refusals.{Linking, with_declared, IsOf, new_files}
-use Rattle.linked_messages.specs.Kept.{IsKept}
+use Rattle.linked_view.specs.Kept.{IsKept}
 use Rattle.schema_view.specs.Declarations.{declarations}
 use Rattle.schema_view.specs.Lawful.{Meanings, all_linked}
 use Rattle.linked_view.specs.Alone.{IsWellNamed}

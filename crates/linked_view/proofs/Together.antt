@@ -22,7 +22,7 @@ use Rattle.reflect_tables.specs.declared.stored.StoredMessage.{StoredMessage}
 use Rattle.reflect_tables.proofs.Founds.{front}
 use Rattle.reflect_declarations.specs.Batches.{batch_declarations}
 use Rattle.reflect_index.proofs.Among.{get_map, got_map}
-use Rattle.linked_messages.specs.Kept.{IsKept}
+use Rattle.linked_view.specs.Kept.{IsKept}
 use Rattle.schema_view.specs.Declarations.{MessageFacts, of_message, Declaration, declarations}
 use Rattle.schema_view.specs.Lawful.{outlines, AddsLawful, all_linked, IsOneMap, Key, has_key, is_use, times_by}
 use Rattle.schema_view.specs.Outlines.{head_of, outline_of, sort_of, IsDeclared}

@@ -14,7 +14,7 @@ use Rattle.reflect_tables.specs.Views.{enum_of}
 use Rattle.reflect_declarations.specs.Batches.{batch_declarations}
 use Rattle.reflect_build.specs.Accepted.{FaultlessBatch, FaultlessFiles}
 use Rattle.reflect_build.specs.Refusals.{AreTypes, Linking, with_declared, IsOf, new_files}
-use Rattle.linked_messages.specs.Kept.{IsKept}
+use Rattle.linked_view.specs.Kept.{IsKept}
 use Rattle.schema_view.specs.Declarations.{declarations}
 use Rattle.schema_view.specs.Lawful.{Meanings, all_linked}
 use Rattle.schema_view.proofs.Renames.{map_same}

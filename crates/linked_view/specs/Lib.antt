@@ -17,3 +17,5 @@ pub mod Pools
 pub mod Taken
 pub mod Valued
 pub mod Whole
+pub mod Kept
+pub mod OneProof

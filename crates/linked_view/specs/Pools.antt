@@ -1,6 +1,6 @@
 -- What each pool has by its type alone.
 use Rattle.reflect_tables.specs.Types.{PoolType}
-use Rattle.linked_messages.specs.Kept.{IsKept}
+use Rattle.linked_view.specs.Kept.{IsKept}
 use Rattle.linked_view.specs.Alone.{IsRecorded}
 use Rattle.linked_view.specs.Extended.{IsIndexed}
 

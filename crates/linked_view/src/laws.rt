@@ -41,7 +41,7 @@ ghost use Rattle.schema_view.specs.Rules.{HasFirst};
 ghost use Rattle.linked_view.specs.Enums.{IsNumbered};
 ghost use Rattle.linked_view.specs.Entries.{HasDeclaredEntries, HaveOneUse, TellsEntries};
 ghost use Rattle.linked_view.specs.Extended.{IsIndexed, TellsExtensions};
-ghost use Rattle.linked_messages.specs.Kept.{IsKept};
+ghost use Rattle.linked_view.specs.Kept.{IsKept};
 ghost use Rattle.linked_view.specs.Alone.{AreLawfulAlone, AreSettledAlone, IsWellNamed, IsRecorded};
 ghost use Rattle.linked_view.specs.Built.{IsBuilt};
 ghost use Rattle.linked_view.specs.Complete.{IsComplete};

@@ -1,5 +1,5 @@
 ghost use Rattle.std.specs.Prelude.{◌≡◌, ◌∷◌, [], Some, OnOk, OnErr, IfOk, IfErr, string_bytes};
-ghost use Rattle.linked_messages.specs.OneProof.{IsSound-prop};
+ghost use Rattle.linked_view.specs.OneProof.{IsSound-prop};
 ghost use Rattle.message_view.specs.Sound.{IsSound};
 
 use crate::error::SchemaError;

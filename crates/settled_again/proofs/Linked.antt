@@ -1,6 +1,6 @@
 -- A pool as linking made it, before options were settled, differs in records alone.
 use Rattle.std.proofs.Common.{ap, sym, subst}
-use Rattle.linked_messages.proofs.Stays.{settled_sound}
+use Rattle.linked_view.proofs.Stays.{settled_sound}
 use Rattle.message_view.specs.Sound.{IsSound}
 use Rattle.reflect_tables.specs.Types.{IsSettled, PoolType}
 use Rattle.text_view.specs.SourceNames.{HaveOwnNames}

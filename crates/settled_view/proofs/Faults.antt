@@ -6,7 +6,7 @@ use Rattle.reflect_build.specs.Refusals.{Linking, with_declared, IsOf, Faulty, F
 use Rattle.reflect_names.specs.Faults.{Fault}
 use Rattle.reflect_tables.specs.Types.{PoolType}
 use Rattle.schema_view.specs.Lawful.{IsLawful, Meanings}
-use Rattle.linked_messages.specs.Kept.{IsKept}
+use Rattle.linked_view.specs.Kept.{IsKept}
 use Rattle.linked_view.proofs.Lawful as unsettled
 use Rattle.settled_view.specs.BuiltBut.{IsBuiltBut, ChangesOptions}
 use Rattle.settled_view.proofs.Transfer.{kept_before}

@@ -9,7 +9,7 @@ use Rattle.reflect_known.proofs.GivenNames.{known_told, past_told}
 use Rattle.reflect_tables.specs.Names.{AreNamed, names_of}
 use Rattle.reflect_tables.specs.Types.{PoolType, ArePooled}
 use Rattle.reflect_tables.specs.Views.{record_file}
-use Rattle.linked_messages.specs.Kept.{IsKept}
+use Rattle.linked_view.specs.Kept.{IsKept}
 use Rattle.linked_view.specs.Pools.{IsPool}
 use Rattle.reflect_build.proofs.Stays.{names_bare}
 use Rattle.settled_view.specs.BuiltBut.{ChangesOptions}

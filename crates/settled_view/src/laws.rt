@@ -14,7 +14,7 @@ ghost use Rattle.reflect_tables.specs.Types.{PoolType};
 ghost use Rattle.schema_view.specs.Lawful.{IsLawful, Meanings, SameFiles, sources};
 ghost use Rattle.schema_view.specs.Plain.{IsPlainFile};
 ghost use Rattle.schema_view.specs.Views.{view_of};
-ghost use Rattle.linked_messages.specs.Kept.{IsKept};
+ghost use Rattle.linked_view.specs.Kept.{IsKept};
 ghost use Rattle.linked_view.specs.Pools.{IsPool};
 ghost use Rattle.settled_view.specs.BuiltBut.{IsBuiltBut, ChangesOptions};
 

@@ -14,7 +14,7 @@ use Rattle.schema_view.specs.Types as view
 use Rattle.schema_view.specs.Views.{view_of}
 use Rattle.schema_view.proofs.Batches.{same_view}
 use Rattle.schema_view.proofs.Road.{built_linked}
-use Rattle.linked_messages.specs.Kept.{IsKept}
+use Rattle.linked_view.specs.Kept.{IsKept}
 use Rattle.linked_view.specs.Built.{IsBuilt}
 use Rattle.linked_view.specs.Pools.{IsPool}
 use Rattle.settled_view.specs.BuiltBut.{ChangesOptions}

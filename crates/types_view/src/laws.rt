@@ -11,7 +11,7 @@ ghost use Rattle.schema_view.specs.Lawful.{SameFiles, sources};
 ghost use Rattle.schema_view.specs.Plain.{IsPlainFile};
 ghost use Rattle.schema_view.specs.Types as view;
 ghost use Rattle.schema_view.specs.Views.{view_of};
-ghost use Rattle.linked_messages.specs.Kept.{IsKept};
+ghost use Rattle.linked_view.specs.Kept.{IsKept};
 ghost use Rattle.linked_view.specs.Alone.{IsWellNamed};
 ghost use Rattle.linked_view.specs.Built.{IsBuilt};
 ghost use Rattle.linked_view.specs.Extended.{IsIndexed};

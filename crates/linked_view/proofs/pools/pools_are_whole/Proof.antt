@@ -37,7 +37,7 @@ use Rattle.reflect_index.proofs.Among.{get_at, get_map}
 use Rattle.reflect_pool.specs.contracts.pool.DescriptorPool as pool
 use Rattle.reflect_pool.specs.contracts.pool.DescriptorPool.TheInside as inside
 use Rattle.message_view.specs.Sound.{HasNumbers}
-use Rattle.linked_messages.specs.Kept.{ExtensionsAreApart, IsKept}
+use Rattle.linked_view.specs.Kept.{ExtensionsAreApart, IsKept}
 use Rattle.linked_view.specs.Alone.{IsRecorded}
 use Rattle.linked_view.specs.Extended.{IsIndexed}
 use Rattle.linked_view.specs.Pools.{IsPool}

@@ -2,8 +2,8 @@ use Rattle.std.proofs.Common.{◌≡◌, IfErr, map, refl, subst, rules, of_call
 use Rattle.std.proofs.lemmas.Result.{err_from_is_err_and}
 use Rattle.reflect_growth.specs.Settled.{bare_of}
 use Rattle.reflect_tables.specs.Types.{IsSettled}
-use Rattle.linked_messages.proofs.Accepted.{accepted_sound}
-use Rattle.linked_messages.proofs.Stays.{settled_sound}
+use Rattle.linked_view.proofs.SoundBatches.{accepted_sound}
+use Rattle.linked_view.proofs.Stays.{settled_sound}
 use Rattle.option_parts.specs.Places.{option_place}
 use Rattle.option_setter.specs.OptionNames.{UnlessMemory}
 use Rattle.reflect_options.specs.Settling.{RefusesFrom, SettlesPool}

@@ -1,5 +1,5 @@
 use Rattle.std.proofs.Common.{sym, subst}
-use Rattle.linked_messages.proofs.Stays.{empty_sound}
+use Rattle.linked_view.proofs.Stays.{empty_sound}
 use Rattle.message_view.specs.Sound.{IsSound}
 use Rattle.schema_core.proofs.schema.Schema.bare.Goals as goal
 

@@ -31,11 +31,11 @@ use Rattle.message_view.specs.Types.{kind_in}
 use Rattle.message_view.proofs.Entries.{key_scalar}
 use Rattle.message_view.proofs.Fields.{held_is}
 use Rattle.reflect_index.proofs.Among.{Among, of_all, of_find, of_place, get_at}
-use Rattle.linked_messages.proofs.Defaults.{HasOne, IsOfKind}
-use Rattle.linked_messages.proofs.Fields.{IsList, HasParts}
-use Rattle.linked_messages.proofs.Ruled.{HasPart, IsNumbered, IsKeptIn}
-use Rattle.linked_messages.specs.Kept.{ExtensionsAreApart}
-use Rattle.linked_messages.proofs.Grown.{IsNew, type_stays, field_within, which_type, entry_stays, part_stays, floats_stay, default_stays}
+use Rattle.linked_view.proofs.DefaultValues.{HasOne, IsOfKind}
+use Rattle.linked_view.proofs.Fields.{IsList, HasParts}
+use Rattle.linked_view.proofs.RuledEntries.{HasPart, IsNumbered, IsKeptIn}
+use Rattle.linked_view.specs.Kept.{ExtensionsAreApart}
+use Rattle.linked_view.proofs.Grown.{IsNew, type_stays, field_within, which_type, entry_stays, part_stays, floats_stay, default_stays}
 
 -- what a value of a key's kind is
 key_value : (k : KindType) (v : Single) → IsKeyKind k → IsOfKind k v → IsKeyValue (Some v)

@@ -19,7 +19,7 @@ use Rattle.reflect_message.specs.Known.{is_float, entry_field, holds_floats}
 use Rattle.reflect_scalar.specs.Defaults.{declared_in, kind_default, default_in}
 use Rattle.reflect_scalar.specs.Singles.{enumerated}
 use Rattle.reflect_index.proofs.Among.{Among, of_all}
-use Rattle.linked_messages.proofs.Defaults.{at_or}
+use Rattle.linked_view.proofs.DefaultValues.{at_or}
 
 -- the default of a kind in pools that have one enum there
 default_at : (p q : PoolType) (k : KindType) (d : Option DefaultType)

@@ -13,7 +13,7 @@ use Rattle.reflect_index.specs.BatchEntries.{IsBatchOf}
 use Rattle.reflect_index.specs.OfDeclarations.{RangesType, AreDeclared, AllDeclared, messages_in}
 use Rattle.reflect_index.specs.declared.batch.Batch.{Batch}
 use Rattle.reflect_index.proofs.Among.{Among}
-use Rattle.linked_messages.proofs.Following.{DeclaresAt, declared_in, all_stand, batch_follow, StandsAt}
+use Rattle.linked_view.proofs.Following.{DeclaresAt, declared_in, all_stand, batch_follow, StandsAt}
 use Rattle.reflect_index.proofs.Declared.{FieldDeclared}
 
 -- so in a batch, where so many messages were before

@@ -28,11 +28,11 @@ use Rattle.message_view.specs.Sound.{IsFieldNumber}
 use Rattle.reflect_index.proofs.Among.{Among, of_all, of_place, get_at, get_map}
 use Rattle.reflect_index.proofs.Declared.{FieldDeclared, field_declared, extension_declared}
 use Rattle.reflect_build.proofs.Rules.{rules_met, rules_at, entry_shape}
-use Rattle.linked_messages.proofs.Apart.{one_place}
-use Rattle.linked_messages.proofs.Declared.{in_message, declared_at}
-use Rattle.linked_messages.proofs.Faultless.{repeats_none}
-use Rattle.linked_messages.proofs.Numbers.{HasNumber, has_number, the_number, field_free, extension_kept}
-use Rattle.linked_messages.proofs.Parts.{IsPart, entry_part, one_value, HasNumberAt, has_places}
+use Rattle.linked_view.proofs.Apart.{one_place}
+use Rattle.linked_view.proofs.Declared.{in_message, declared_at}
+use Rattle.linked_view.proofs.Faultless.{repeats_none}
+use Rattle.linked_view.proofs.FieldNumbers.{HasNumber, has_number, the_number, field_free, extension_kept}
+use Rattle.linked_view.proofs.Parts.{IsPart, entry_part, one_value, HasNumberAt, has_places}
 
 -- a field's number is one of fields, and its message does not keep it for extensions
 pub record IsNumbered (ranges : List Range) (f : FieldType) : Type 0 where

@@ -39,9 +39,9 @@ use Rattle.reflect_rules.specs.MapEntries.{is_key_type}
 use Rattle.reflect_decode.specs.Refused.{IsKeyKind}
 use Rattle.reflect_index.proofs.Among.{Among, of_all, of_place, get_at}
 use Rattle.reflect_index.proofs.Declared.{FieldDeclared, field_among, extension_declared, of_along}
-use Rattle.linked_messages.proofs.Defaults.{HasType, IsHeld, typed}
-use Rattle.linked_messages.proofs.Faultless.{references_at, named_suits, key_is_unnamed}
-use Rattle.linked_messages.proofs.Parts.{IsKey, IsPart}
+use Rattle.linked_view.proofs.DefaultValues.{HasType, IsHeld, typed}
+use Rattle.linked_view.proofs.Faultless.{references_at, named_suits, key_is_unnamed}
+use Rattle.linked_view.proofs.Parts.{IsKey, IsPart}
 
 -- ---- lists
 

@@ -15,7 +15,7 @@ use Rattle.reflect_tables.specs.Ranges.{Range, IsRangeOf}
 use Rattle.reflect_declarations.specs.Declarations.{Declaration, of_field, of_extension}
 use Rattle.message_view.specs.Sound.{IsFieldNumber}
 use Rattle.reflect_build.proofs.Rules.{none_both}
-use Rattle.linked_messages.proofs.Faultless.{unfaulted}
+use Rattle.linked_view.proofs.Faultless.{unfaulted}
 
 -- the record has the number, which is one of fields
 pub record HasNumber (r : FieldDescriptorProto) (n : ℕ) : Type 0 where

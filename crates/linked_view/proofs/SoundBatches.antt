@@ -23,14 +23,14 @@ use Rattle.reflect_scalar.specs.Defaults.{default_in}
 use Rattle.reflect_build.specs.Refusals.{Linking, new_files, with_declared}
 use Rattle.reflect_build.specs.Accepted.{FaultlessBatch, FaultlessFiles}
 use Rattle.message_view.specs.Sound.{IsSound, HaveNumbers}
-use Rattle.linked_messages.specs.Kept.{IsKept}
+use Rattle.linked_view.specs.Kept.{IsKept}
 use Rattle.reflect_index.proofs.Among.{Among, of_find, get_map, index_is}
 use Rattle.reflect_index.proofs.Declared.{field_among}
-use Rattle.linked_messages.proofs.Defaults.{HasOne, default_has}
-use Rattle.linked_messages.proofs.Ranges.{ranges_at}
-use Rattle.linked_messages.proofs.Ruled.{IsNumbered, IsKeptIn, field_numbered, fields_apart, entry_field, entry_places, extension_number}
-use Rattle.linked_messages.proofs.Fields.{list_declared, extension_listed, entry_parts, key_declared}
-use Rattle.linked_messages.proofs.Sound.{BringsWell, grown_sound}
+use Rattle.linked_view.proofs.DefaultValues.{HasOne, default_has}
+use Rattle.linked_view.proofs.Ranges.{ranges_at}
+use Rattle.linked_view.proofs.RuledEntries.{IsNumbered, IsKeptIn, field_numbered, fields_apart, entry_field, entry_places, extension_number}
+use Rattle.linked_view.proofs.Fields.{list_declared, extension_listed, entry_parts, key_declared}
+use Rattle.linked_view.proofs.SoundPools.{BringsWell, grown_sound}
 
 module _ (w : Linking) (files : List FileDescriptorProto) (new : PoolType)
     (faultless : FaultlessBatch w files new) (numbers : HaveNumbers new)

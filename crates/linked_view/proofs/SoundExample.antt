@@ -15,13 +15,13 @@ use Rattle.reflect_decode.specs.Refused.{IsKeyKind}
 use Rattle.reflect_scalar.specs.Defaults.{default_in}
 use Rattle.reflect_scalar.specs.Singles.{int32, int64}
 use Rattle.message_view.specs.Sound.{IsFieldNumber, IsSound}
-use Rattle.linked_messages.specs.Kept.{IsKept}
+use Rattle.linked_view.specs.Kept.{IsKept}
 use Rattle.reflect_index.proofs.Among.{Among, get_map}
-use Rattle.linked_messages.proofs.Defaults.{HasOne}
-use Rattle.linked_messages.proofs.Fields.{IsList, HasParts}
-use Rattle.linked_messages.proofs.Ruled.{HasPart}
-use Rattle.linked_messages.proofs.Sound.{FieldsWell, BringsWell, grown_sound}
-use Rattle.linked_messages.proofs.Stays.{empty_sound}
+use Rattle.linked_view.proofs.DefaultValues.{HasOne}
+use Rattle.linked_view.proofs.Fields.{IsList, HasParts}
+use Rattle.linked_view.proofs.RuledEntries.{HasPart}
+use Rattle.linked_view.proofs.SoundPools.{FieldsWell, BringsWell, grown_sound}
+use Rattle.linked_view.proofs.Stays.{empty_sound}
 
 -- message M { map<int32, int64> sums = 1; repeated int32 marks = 2; }
 abbrev the_sums : FieldType
