@@ -1,5 +1,5 @@
 -- Types that are put behind others.
-use Rattle.std.proofs.Common.{◌≡◌, ◌∙◌, ◌<◌, ◌+◌, ◌++◌, ℕ, List, [], ◌∷◌, map, take, length, get_or, ap, sym, subst, append_assoc}
+use Rattle.std.proofs.Common.{◌≡◌, ◌∙◌, ◌<◌, ◌+◌, ◌++◌, ℕ, List, [], ◌∷◌, map, take, length, get_or, refl, ap, sym, subst, append_assoc}
 use Rattle.std.proofs.lemmas.List.{append-nil, map_push}
 use Rattle.std.specs.List.{flat_map}
 use Rattle.descriptor_records.specs.Content.{MessageContent, message_view, messages_of}
@@ -15,7 +15,10 @@ types_more s (t ∷ ts) us [] ys a b = absurd a
 types_more s (t ∷ ts) us (x ∷ xs) ys a b = (a.0, types_more s ts us xs ys a.1 b)
 
 pub adds_one : (s : Syntax) (t : Declared) (xs : List MessageContent) (x : MessageContent) → IsType s t x → AddsTypes s (t ∷ []) xs (xs ++ x ∷ [])
-adds_one s t xs x is before a = types_more s before (t ∷ []) xs (x ∷ []) a (is, tt)
+adds_one s t xs x is = (x ∷ [], refl, (is, tt))
+
+pub adds_none : (s : Syntax) (xs : List MessageContent) → AddsTypes s [] xs xs
+adds_none s xs = ([], sym (append-nil xs), tt)
 
 -- a type whose record is pushed
 pub adds_pushed : (s : Syntax) (t : Declared) (ts : List Declared) (old new : List DescriptorProto) (x : DescriptorProto) → new ≡ old ++ x ∷ [] → ts ≡ t ∷ [] → IsType s t (message_view x) → AddsTypes s ts (map message_view old) (map message_view new)
@@ -24,7 +27,12 @@ adds_pushed s t ts old new x pushed one is =
     (subst (λ us. AddsTypes s us (map message_view old) (map message_view old ++ message_view x ∷ [])) (sym one) (adds_one s t (map message_view old) (message_view x) is))
 
 pub adds_next : (s : Syntax) (ts us : List Declared) (xs ys zs : List MessageContent) → AddsTypes s ts xs ys → AddsTypes s us ys zs → AddsTypes s (ts ++ us) xs zs
-adds_next s ts us xs ys zs a b before h = subst (λ vs. AreTypes s vs (messages_of zs)) (append_assoc before ts us) (b (before ++ ts) (a before h))
+adds_next s ts us xs ys zs a b =
+    (a.0 ++ b.0, b.1 ∙ ap (λ l. l ++ b.0) a.1 ∙ append_assoc xs a.0 b.0, types_more s ts us a.0 b.0 a.2 b.2)
+
+-- types that are added behind those whose records were there
+pub adds_behind : (s : Syntax) (ts us : List Declared) (xs ys : List MessageContent) → AreTypes s ts (messages_of xs) → AddsTypes s us xs ys → AreTypes s (ts ++ us) (messages_of ys)
+adds_behind s ts us xs ys a b = subst (λ l. AreTypes s (ts ++ us) (messages_of l)) (sym b.1) (types_more s ts us xs b.0 a b.2)
 
 -- items whose types are added, one more of them, and one that declares none
 module _ {A : Type 0} (s : Syntax) (f : A → List Declared) (xs : List A) (i : ℕ) (x : A) where

@@ -273,8 +273,7 @@ abbrev mutual
   AreTypes s (t ∷ ts) no_messages = ⊥
   AreTypes s (t ∷ ts) (more_messages m ms) = IsType s t m × AreTypes s ts ms
 
--- what was the record of some types is now that of these types and of more
+-- behind the records that were there stand those of more types
 abbrev pub AddsTypes : Syntax → List Declared → List MessageContent → List MessageContent → Type 0
 AddsTypes s more old new =
-    (before : List Declared) → AreTypes s before (messages_of old)
-    → AreTypes s (before ++ more) (messages_of new)
+    (made : List MessageContent) × (new ≡ old ++ made) × AreTypes s more (messages_of made)

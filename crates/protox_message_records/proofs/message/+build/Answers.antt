@@ -1,7 +1,7 @@
 use Rattle.std.proofs.Common.{◌≡◌, ◌∙◌, ◌∷◌, [], map, refl, rules, string_bytes, take, ap, sym, subst}
 use Rattle.std.specs.List.{flat_map}
 use Rattle.descriptor_records.specs.Content.{message_view, messages_of}
-use Rattle.protox_message_records.proofs.Types.{adds_item, adds_pushed, passes_item}
+use Rattle.protox_message_records.proofs.Types.{adds_behind, adds_item, adds_pushed, passes_item}
 use Rattle.protox_field_records.proofs.Loops.{next}
 use Rattle.protox_field_records.specs.Layers.{AddedLayer, MemberLayer}
 use Rattle.protox_field_records.specs.MapEntries.{entry_of}
@@ -53,7 +53,7 @@ nested_types-each-preserved t c =
     let xs = c.deref-item-items.result.now in
     let i = c.each.item-index in
     subst (λ ts. AreTypes s ts (messages_of (map message_view c.add_types.new.types.items))) (sym (next types_at xs i c.item-item.result c.each-test.true c.item-item.is))
-    (c.in_ok-add_types.ensures (flat_map types_at (take i xs)) c.each.invariant)
+    (adds_behind s (flat_map types_at (take i xs)) _ _ _ c.each.invariant c.in_ok-add_types.ensures)
 
 -- a member of a oneof that is no field declares no type
 no_member : (x : OneofItem) (y : MemberLayer) → out-OneofItem x ≡ y → ((f : Field) → x ≡ members.Field f → ⊥) → types_of_member y ≡ []
