@@ -17,9 +17,6 @@ types_more s (t ∷ ts) us (x ∷ xs) ys a b = (a.0, types_more s ts us xs ys a.
 pub adds_one : (s : Syntax) (t : Declared) (xs : List MessageContent) (x : MessageContent) → IsType s t x → AddsTypes s (t ∷ []) xs (xs ++ x ∷ [])
 adds_one s t xs x is = (x ∷ [], refl, (is, tt))
 
-pub adds_none : (s : Syntax) (xs : List MessageContent) → AddsTypes s [] xs xs
-adds_none s xs = ([], sym (append-nil xs), tt)
-
 -- a type whose record is pushed
 pub adds_pushed : (s : Syntax) (t : Declared) (ts : List Declared) (old new : List DescriptorProto) (x : DescriptorProto) → new ≡ old ++ x ∷ [] → ts ≡ t ∷ [] → IsType s t (message_view x) → AddsTypes s ts (map message_view old) (map message_view new)
 adds_pushed s t ts old new x pushed one is =
