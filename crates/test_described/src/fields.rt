@@ -4,10 +4,10 @@ use crate::parts::{
     or_dash, write_found, write_home, write_listed, write_named, write_path, write_record,
     write_truth,
 };
-use reflect_dynamic::{AnyField, FieldDescriptorLike};
 use reflect_link::{
     Cardinality, DefaultValue, ExtensionDescriptor, FieldDescriptor, FieldReaders, InFile, Kind,
 };
+use reflect_scalar::{AnyField, FieldDescriptorLike};
 use test_json::Text;
 
 /// Writes a field's names, where it stands, and what finds it again.
