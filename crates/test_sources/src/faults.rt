@@ -1,5 +1,6 @@
 //! Where the faults of files stand, and indexes that do not fit.
 
+use crate::shown::write_shown;
 use descriptor_records::FileDescriptorProto;
 use name_table::NameTable;
 use protox_parse::parse;
@@ -18,10 +19,11 @@ const SOURCE: &str = "syntax = \"proto3\"; import \"b.proto\";";
 /// The faults of the names that files declare, behind those of the files' own.
 fn faults_behind(
     alloc: Global,
+    out: &mut Text,
     faults: Faults<'_>,
     file_names: &BTreeMap<String, u32>,
     files: &[FileDescriptorProto],
-) -> Result<Vec<DescriptorErrorKind>, VisitError> {
+) -> Vec<DescriptorErrorKind> {
     let mut names = NameVisitor::new(NameTable::new(alloc), faults, file_names);
     let none = Offsets {
         messages: 0,
@@ -29,20 +31,25 @@ fn faults_behind(
         extensions: 0,
         services: 0,
     };
-    names.declare_files(alloc, none, 0, files)?;
+    if names.declare_files(alloc, none, 0, files).is_err() {
+        out.give_up();
+    }
     let (_names, faults) = names.into_parts();
-    Ok(faults.into_list())
+    faults.into_list()
 }
 
 /// The faults of the names of files and of what they declare.
 fn faults_in(
     alloc: Global,
+    out: &mut Text,
     files: &[FileDescriptorProto],
-) -> Result<Vec<DescriptorErrorKind>, VisitError> {
+) -> Vec<DescriptorErrorKind> {
     let mut faults = Faults::new(alloc, files, 0);
     let mut file_names = BTreeMap::new(alloc);
-    name_files(alloc, &mut file_names, 0, files, &mut faults)?;
-    faults_behind(alloc, faults, &file_names, files)
+    if name_files(alloc, &mut file_names, 0, files, &mut faults).is_err() {
+        out.give_up();
+    }
+    faults_behind(alloc, out, faults, &file_names, files)
 }
 
 /// The file of the source; none where it is refused.
@@ -54,11 +61,13 @@ fn files_of_source(alloc: Global) -> Result<Vec<FileDescriptorProto>, AllocError
 }
 
 /// The faults of the source.
-fn faults_of_source(alloc: Global) -> Result<Vec<DescriptorErrorKind>, AllocError> {
-    let files = files_of_source(alloc)?;
-    match faults_in(alloc, files.as_slice()) {
-        Ok(faults) => Ok(faults),
-        Err(_) => Err(AllocError),
+fn faults_of_source(alloc: Global, out: &mut Text) -> Vec<DescriptorErrorKind> {
+    match files_of_source(alloc) {
+        Ok(files) => faults_in(alloc, out, files.as_slice()),
+        Err(_) => {
+            out.give_up();
+            Vec::new(alloc)
+        }
     }
 }
 
@@ -75,19 +84,19 @@ fn write_bytes(out: &mut Text, bytes: Option<Range<usize>>) {
 fn write_fault(out: &mut Text, fault: &DescriptorErrorKind) {
     if let Some(label) = fault.label() {
         out.push_pair(label.file(), " ");
-        write!(out, "{:?} {:?} ", label.line(), label.column());
+        write_shown(out, label.line());
+        write_shown(out, label.column());
         write_bytes(out, label.span());
     }
 }
 
 /// The place of the source's fault, in the words of the parser.
-pub fn write_faults(alloc: Global, out: &mut Text) -> Result<(), AllocError> {
-    let mut faults = faults_of_source(alloc)?;
+pub fn write_faults(alloc: Global, out: &mut Text) {
+    let mut faults = faults_of_source(alloc, out);
     for fault in faults.iter_mut() {
         fault.resolve_span("a.proto", SOURCE);
         write_fault(out, fault);
     }
-    Ok(())
 }
 
 /// The bytes of a label in two sources, of which the second ends before it.
@@ -101,19 +110,20 @@ pub fn write_labels(alloc: Global, out: &mut Text) -> Result<(), AllocError> {
     Ok(())
 }
 
-/// Writes the bytes of an error that knows its source, and the error.
-fn write_located(out: &mut Text, error: &DescriptorError) {
+/// Writes the bytes of an error, before and after it knows its source, and the error.
+fn write_located(out: &mut Text, error: DescriptorError) {
     write_bytes(out, error.span());
-    write!(out, "{error:?}");
+    let located = error.with_source_code(SOURCE);
+    write_bytes(out, located.span());
+    write!(out, "{located:?}");
 }
 
-/// The bytes of the source's error, before and after it knows its source, and the error.
-pub fn write_error(alloc: Global, out: &mut Text) -> Result<(), AllocError> {
-    if let Some(error) = DescriptorError::from_list(faults_of_source(alloc)?) {
-        write_bytes(out, error.span());
-        write_located(out, &error.with_source_code(SOURCE));
+/// The bytes of the source's error, and the error.
+pub fn write_error(alloc: Global, out: &mut Text) {
+    let faults = faults_of_source(alloc, out);
+    if let Some(error) = DescriptorError::from_list(faults) {
+        write_located(out, error);
     }
-    Ok(())
 }
 
 fn named_file(alloc: Global, name: &str) -> Result<FileDescriptorProto, AllocError> {
@@ -123,11 +133,16 @@ fn named_file(alloc: Global, name: &str) -> Result<FileDescriptorProto, AllocErr
     Ok(file)
 }
 
-/// Writes whether files are named whose first has this index.
-fn write_named(alloc: Global, out: &mut Text, files: &[FileDescriptorProto], first: u32) {
+/// Names files whose first has this index.
+fn name_from(alloc: Global, files: &[FileDescriptorProto], first: u32) -> Result<(), VisitError> {
     let mut names = BTreeMap::new(alloc);
     let mut faults = Faults::new(alloc, files, first);
-    match name_files(alloc, &mut names, first, files, &mut faults) {
+    name_files(alloc, &mut names, first, files, &mut faults)
+}
+
+/// Writes whether files are named whose first has this index.
+fn write_named(alloc: Global, out: &mut Text, files: &[FileDescriptorProto], first: u32) {
+    match name_from(alloc, files, first) {
         Ok(()) => out.push_str("named "),
         Err(VisitError::TooMany) => write!(out, "{} ", DescriptorErrorKind::TooMany),
         Err(VisitError::Memory) => out.give_up(),

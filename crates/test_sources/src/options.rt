@@ -44,17 +44,20 @@ fn write_values(out: &mut Text, option: &UninterpretedOption) {
     }
 }
 
+/// Writes a line for an option that is set.
+fn write_set(out: &mut Text, owner: &str, word: &str, value: Option<bool>) {
+    if let Some(value) = value {
+        out.push_pair(owner, word);
+        out.push_shown(" ", value);
+        out.push_str("\n");
+    }
+}
+
 /// Writes a line for each option that linking reads.
 fn write_typed(out: &mut Text, owner: &str, options: &Options) {
-    for (word, value) in [
-        ("packed", options.packed),
-        ("allow_alias", options.allow_alias),
-        ("map_entry", options.map_entry),
-    ] {
-        if let Some(value) = value {
-            writeln!(out, "{owner} {word} {value}");
-        }
-    }
+    write_set(out, owner, " packed", options.packed);
+    write_set(out, owner, " allow_alias", options.allow_alias);
+    write_set(out, owner, " map_entry", options.map_entry);
 }
 
 /// Writes a line for each option that linking reads, and for each that no type has read, behind the

@@ -1,14 +1,13 @@
 //! One record at the start of bytes, one file, and the numbers of `descriptor.proto`.
 
 use crate::options::write_enums;
-use crate::sources::{tell_options, tell_record};
+use crate::shown::write_shown;
+use crate::sources::{tell_file_bytes, tell_options};
 use crate::wire::tell_written;
 use descriptor_records::{DescriptorProto, FieldType, FileDescriptorProto, Label, join_path};
 use reflect_codec::decode_file;
 use reflect_wire::{UnknownField, UnknownFieldValue, WireError, WireType};
-use serde_json::Value;
 use std::alloc::{AllocError, Global};
-use test_json::members::{bytes, number};
 use test_json::{Text, Told, tell_case};
 
 /// The bytes of a record.
@@ -31,23 +30,16 @@ fn tell_field(alloc: Global, told: &mut Told<'_>, field: &UnknownField) {
     tell_written(alloc, told, written(alloc, field));
 }
 
-/// Tells the first record of bytes, or how it is refused; and what is left of the bytes.
-fn tell_first(alloc: Global, told: &mut Told<'_>, bytes: &[u8], levels: u32) {
+/// Tells the first record of bytes, which stands inside so many levels, or how it is refused; and
+/// what is left of the bytes.
+pub fn tell_record(alloc: Global, told: &mut Told<'_>, bytes: &[u8], levels: u64) {
     let mut rest = bytes;
+    let levels = u32::try_from(levels).unwrap_or(0);
     match UnknownField::decode(alloc, &mut rest, levels) {
         Ok(field) => tell_field(alloc, told, &field),
         Err(error) => tell_case(alloc, told, "wire", &error),
     }
     told.tell_bytes("rest", rest);
-}
-
-/// The first record of bytes, which stands inside so many levels.
-pub fn tell_first_record(alloc: Global, case: &Value, told: &mut Told<'_>) {
-    let levels = u32::try_from(number(case, "levels")).unwrap_or(0);
-    match bytes(alloc, case, "bytes") {
-        Ok(bytes) => tell_first(alloc, told, bytes.as_slice(), levels),
-        Err(_) => told.give_up(),
-    }
 }
 
 /// Tells a copy of a record.
@@ -59,21 +51,13 @@ fn tell_copy(alloc: Global, told: &mut Told<'_>, field: &UnknownField) {
 }
 
 /// Tells a copy of the record of number 3 whose value bytes begin with; and what is left of them.
-fn tell_third(alloc: Global, told: &mut Told<'_>, bytes: &[u8]) {
+pub fn tell_third_record(alloc: Global, told: &mut Told<'_>, bytes: &[u8]) {
     let mut rest = bytes;
     match UnknownField::decode_value(alloc, 3, WireType::Varint, &mut rest, 0) {
         Ok(field) => tell_copy(alloc, told, &field),
         Err(error) => tell_case(alloc, told, "wire", &error),
     }
     told.tell_bytes("rest", rest);
-}
-
-/// A record whose value bytes begin with.
-pub fn tell_value(alloc: Global, case: &Value, told: &mut Told<'_>) {
-    match bytes(alloc, case, "bytes") {
-        Ok(bytes) => tell_third(alloc, told, bytes.as_slice()),
-        Err(_) => told.give_up(),
-    }
 }
 
 /// Tells a name that a record may have.
@@ -83,10 +67,13 @@ fn tell_name(told: &mut Told<'_>, word: &'static str, name: &Option<String>) {
     }
 }
 
-/// How many bytes the options of a message's first field have.
-fn len_of_field_options(message: &DescriptorProto) -> Option<usize> {
-    let options = message.field.first()?.options.as_ref()?;
-    Some(options.encoded.len())
+/// Tells how many bytes the options of a message's first field have.
+fn tell_field_options(told: &mut Told<'_>, message: &DescriptorProto) {
+    if let Some(field) = message.field.first() {
+        if let Some(options) = &field.options {
+            told.tell("field_options", options.encoded.len());
+        }
+    }
 }
 
 /// Tells the bytes of a file's options, and how many those of its first field have.
@@ -95,9 +82,7 @@ fn tell_encoded(told: &mut Told<'_>, file: &FileDescriptorProto) {
         told.tell_bytes("encoded", options.encoded.as_slice());
     }
     if let Some(message) = file.message_type.first() {
-        if let Some(len) = len_of_field_options(message) {
-            told.tell("field_options", len);
-        }
+        tell_field_options(told, message);
     }
 }
 
@@ -111,15 +96,12 @@ fn tell_whole(alloc: Global, told: &mut Told<'_>, file: &FileDescriptorProto) {
     let mut enums = Text::new(alloc);
     write_enums(&mut enums, file);
     told.tell_text("enum_options", enums);
-    tell_record(alloc, told, "record", file);
+    tell_file_bytes(alloc, told, "record", file);
 }
 
 /// The file that bytes spell.
-pub fn tell_file(alloc: Global, case: &Value, told: &mut Told<'_>) {
-    let Ok(bytes) = bytes(alloc, case, "bytes") else {
-        return told.give_up();
-    };
-    match decode_file(alloc, bytes.as_slice()) {
+pub fn tell_file(alloc: Global, told: &mut Told<'_>, bytes: &[u8]) {
+    match decode_file(alloc, bytes) {
         Ok(file) => tell_whole(alloc, told, &file),
         Err(error) => tell_case(alloc, told, "wire", &error),
     }
@@ -127,15 +109,16 @@ pub fn tell_file(alloc: Global, case: &Value, told: &mut Told<'_>) {
 
 /// Writes the numbers of labels, and which labels have them.
 fn write_label_numbers(out: &mut Text) {
-    for label in [Label::Repeated, Label::Required] {
+    for label in &[Label::Repeated, Label::Required] {
         let number = label.number();
-        write!(out, "{number} {:?} ", Label::from_number(number));
+        write_shown(out, number);
+        write_shown(out, Label::from_number(number));
     }
 }
 
 /// Writes the numbers of types, and which types have them.
 fn write_type_numbers(out: &mut Text) {
-    for field_type in [
+    for field_type in &[
         FieldType::Double,
         FieldType::Int32,
         FieldType::Group,
@@ -143,7 +126,8 @@ fn write_type_numbers(out: &mut Text) {
         FieldType::Sint64,
     ] {
         let number = field_type.number();
-        write!(out, "{number} {:?} ", FieldType::from_number(number));
+        write_shown(out, number);
+        write_shown(out, FieldType::from_number(number));
     }
 }
 
@@ -151,8 +135,8 @@ fn write_type_numbers(out: &mut Text) {
 pub fn write_numbers(alloc: Global, out: &mut Text) -> Result<(), AllocError> {
     write_label_numbers(out);
     write_type_numbers(out);
-    write!(out, "{:?} ", Label::from_number(4));
-    write!(out, "{:?} ", FieldType::from_number(19));
+    write_shown(out, Label::from_number(4));
+    write_shown(out, FieldType::from_number(19));
     let path = join_path(alloc, &[4, 0], &[2, 1])?;
     write!(out, "{:?}", path.as_slice());
     Ok(())

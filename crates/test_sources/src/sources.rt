@@ -11,8 +11,8 @@ use std::alloc::Global;
 use test_json::members::text;
 use test_json::{Text, Told, write_case};
 
-/// Tells the bytes of a record.
-pub fn tell_record(
+/// Tells the bytes of a file's record.
+pub fn tell_file_bytes(
     alloc: Global,
     told: &mut Told<'_>,
     name: &'static str,
@@ -49,9 +49,9 @@ fn tell_accepted(alloc: Global, told: &mut Told<'_>, file: &mut FileDescriptorPr
     told.tell("ok", "accepted");
     tell_options(alloc, told, file);
     tell_places(alloc, told, file);
-    tell_record(alloc, told, "placed", file);
+    tell_file_bytes(alloc, told, "placed", file);
     file.source_code_info = None;
-    tell_record(alloc, told, "record", file);
+    tell_file_bytes(alloc, told, "record", file);
 }
 
 /// The record of a source, or the refusal.
@@ -85,14 +85,19 @@ fn tell_faults(alloc: Global, told: &mut Told<'_>, faults: &[ParseErrorKind]) {
     told.tell_text("spans", spans);
 }
 
+/// Tells a place.
+fn tell_span(alloc: Global, told: &mut Told<'_>, span: Span) {
+    let mut shown = Text::new(alloc);
+    shown.push_span(span.start, span.end);
+    told.tell_text("span", shown);
+}
+
 /// A source's refusal: all faults with their places, the place of the first, the text in front of
 /// which it stands, and what it says with and without the place.
 pub fn tell_source_refusal(alloc: Global, told: &mut Told<'_>, error: &ParseError) {
     tell_faults(alloc, told, error.faults());
-    if let Some(Span { start, end }) = error.span() {
-        let mut shown = Text::new(alloc);
-        shown.push_span(start, end);
-        told.tell_text("span", shown);
+    if let Some(span) = error.span() {
+        tell_span(alloc, told, span);
     }
     if let Some(ParseErrorKind::UnexpectedToken { found, .. }) = error.kind() {
         told.tell("found", found.as_str());

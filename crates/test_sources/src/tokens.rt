@@ -22,14 +22,13 @@ fn mark(token: &Token<'_>) -> &'static str {
 
 /// Writes a token, with a mark behind it where the text format alone has it.
 fn write_token(out: &mut Text, lexeme: &Lexeme<'_>) {
-    let letter = mark(&lexeme.token);
-    let alone = if lexeme.text_format_fault().is_some() {
-        "!"
-    } else {
-        ""
-    };
     out.push_span(lexeme.span.start, lexeme.span.end);
-    write!(out, " {letter}{}{alone} ", lexeme.token);
+    out.push_pair(" ", mark(&lexeme.token));
+    write!(out, "{}", lexeme.token);
+    if lexeme.text_format_fault().is_some() {
+        out.push_str("!");
+    }
+    out.push_str(" ");
 }
 
 /// The tokens of a source.

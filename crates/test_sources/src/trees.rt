@@ -1,5 +1,6 @@
 //! Parts of syntax trees: where they stand, and what they say as texts.
 
+use crate::shown::write_shown;
 use descriptor_records::FieldType;
 use protox_lex::{Int, Span, String as Literal};
 use protox_parse::tree::{
@@ -37,26 +38,33 @@ fn dotted(alloc: Global) -> Result<FullIdent, AllocError> {
     Ok(FullIdent::from_idents(vec![in alloc; foo, bar]?))
 }
 
-fn write_name(alloc: Global, out: &mut Text, name: &FullIdent) {
-    write_span(out, name.span());
-    write_text(out, name.to_text(alloc));
+/// The name `foo`.
+fn single(alloc: Global) -> Result<FullIdent, AllocError> {
+    let foo = ident(alloc, "foo", 3)?;
+    FullIdent::from_ident(alloc, foo)
+}
+
+/// Writes a name's place and text, if there was room for it.
+fn write_name(alloc: Global, out: &mut Text, name: Result<FullIdent, AllocError>) {
+    match name {
+        Ok(name) => {
+            write_span(out, name.span());
+            write_text(out, name.to_text(alloc));
+        }
+        Err(_) => out.give_up(),
+    }
 }
 
 /// Names of one part and of two.
-pub fn write_names(alloc: Global, out: &mut Text) -> Result<(), AllocError> {
-    write_name(
-        alloc,
-        out,
-        &FullIdent::from_ident(alloc, ident(alloc, "foo", 3)?)?,
-    );
-    write_name(alloc, out, &dotted(alloc)?);
-    Ok(())
+pub fn write_names(alloc: Global, out: &mut Text) {
+    write_name(alloc, out, single(alloc));
+    write_name(alloc, out, dotted(alloc));
 }
 
 /// Writes a type's place, and which scalar or whose name it is.
 fn write_type(alloc: Global, out: &mut Text, ty: &Ty) {
     write_span(out, ty.span());
-    write!(out, "{:?} ", ty.proto_ty());
+    write_shown(out, ty.proto_ty());
     match ty.ty_name(alloc) {
         Ok(Some(name)) => write!(out, "{name} "),
         Ok(None) => out.push_str("no name "),
@@ -80,7 +88,7 @@ pub fn write_types(alloc: Global, out: &mut Text) -> Result<(), AllocError> {
 fn write_value(alloc: Global, out: &mut Text, value: &OptionValue) {
     write_span(out, value.span());
     write_text(out, value.to_token_string(alloc));
-    write!(out, "{:?} ", value.as_bool());
+    write_shown(out, value.as_bool());
 }
 
 /// The name of an extension, a number and a word.

@@ -4,9 +4,7 @@
 use descriptor_records::FileDescriptorSet;
 use reflect_codec::{decode_set, encode_set};
 use reflect_wire::{UnknownFieldSet, WireError};
-use serde_json::Value;
 use std::alloc::Global;
-use test_json::members::bytes;
 use test_json::{Told, tell_case};
 
 /// Tells what was written, or why the bytes are refused.
@@ -40,19 +38,13 @@ fn set(alloc: Global, bytes: &[u8]) -> Result<Vec<u8>, WireError> {
 }
 
 /// Records of no type.
-pub fn tell_records(alloc: Global, case: &Value, told: &mut Told<'_>) {
-    match bytes(alloc, case, "bytes") {
-        Ok(bytes) => tell_written(alloc, told, records(alloc, bytes.as_slice())),
-        Err(_) => told.give_up(),
-    }
+pub fn tell_records(alloc: Global, told: &mut Told<'_>, bytes: &[u8]) {
+    tell_written(alloc, told, records(alloc, bytes));
 }
 
 /// A descriptor set.
-pub fn tell_set(alloc: Global, case: &Value, told: &mut Told<'_>) {
-    match bytes(alloc, case, "bytes") {
-        Ok(bytes) => tell_written(alloc, told, set(alloc, bytes.as_slice())),
-        Err(_) => told.give_up(),
-    }
+pub fn tell_set(alloc: Global, told: &mut Told<'_>, bytes: &[u8]) {
+    tell_written(alloc, told, set(alloc, bytes));
 }
 
 /// Takes places of declarations out of a set, and the file of a name.
