@@ -228,14 +228,26 @@ impl<'p> OptionsVisitor<'p> {
         ensures noted { OnOk result (HasFault self.new.fault fault.kind
             (fault_path (entity_of entity.entry) fault.option)) }
     {
-        let OptionFault { kind, option } = fault;
-        let at_options = join_path(alloc, entity.path, &[entity.number])?;
-        let path = match option {
-            Some(place) => written_path(alloc, at_options.as_slice(), place)?,
-            None => at_options,
-        };
+        let path = fault_path(alloc, entity, fault.option)?;
+        let OptionFault { kind, option: _ } = fault;
         self.fault = Some((kind, path));
         Ok(())
+    }
+}
+
+/// The path of a fault in the options of an entity: that of the one at fault which a source wrote,
+/// if it is such a one, else that of them all.
+fn fault_path(
+    alloc: Global,
+    entity: Entity<'_>,
+    option: Option<usize>,
+) -> Result<Vec<i32>, AllocError>
+    ensures { IfOk result (λ path. path.items ≡ fault_path (entity_of entity.entry) option) }
+{
+    let options = join_path(alloc, entity.path, &[entity.number])?;
+    match option {
+        Some(place) => written_path(alloc, options.as_slice(), place),
+        None => Ok(options),
     }
 }
 
