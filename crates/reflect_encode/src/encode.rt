@@ -1,7 +1,7 @@
 //! From a message to wire bytes, which are put from the last to the first: so the length of what
 //! stands behind a key is known when the key is put.
 
-ghost use Rattle.std.specs.Prelude.{◌≡◌, ℕ, List, ◌++◌, map, length, OnOk, IfOk, is_some, option_map, reverse};
+ghost use Rattle.std.specs.Prelude.{◌≡◌, ℕ, List, ◌++◌, map, OnOk, IfOk, is_some, option_map, reverse};
 ghost use Rattle.reflect_codec.specs.Held.{held};
 ghost use Rattle.reflect_codec.specs.Fields.{payload_field};
 ghost use Rattle.std.specs.List.{flat_map};
@@ -145,23 +145,10 @@ fn put_record<'p>(
         Value::Message(message) => {
             let end = out.len();
             put_message(out, message)?;
-            put_length(out, number, end)
+            out.put_length(number, end)
         }
         _ => put_single(out, number, &field.kind(), value.as_scalar()),
     }
-}
-
-/// Puts the key and the length of what was put since `end` bytes were held.
-fn put_length(out: &mut Backward, number: u32, end: usize) -> Result<(), AllocError>
-    ensures { (payload behind : List ℕ) → held out.old ≡ payload ++ behind → length behind ≡ end
-        → OnOk result (held out.new ≡ payload_field number payload ++ behind) }
-{
-    let len = out.len().saturating_sub(end);
-    out.put_varint(len as u64)?;
-    out.put_key(WireKey {
-        number,
-        wire: WireType::LengthDelimited,
-    })
 }
 
 /// Puts the record of a single value, where it suits the kind.
@@ -249,7 +236,7 @@ fn put_packed<'p>(
     let end = out.len();
     let kind = field.kind();
     put_row(out, &kind, values)?;
-    put_length(out, field.number(), end)
+    out.put_length(field.number(), end)
 }
 
 /// Puts the records of a map, by ascending key.
@@ -290,7 +277,7 @@ fn put_entry<'p>(
     let end = out.len();
     put_content(out, AnyField::Field(values), value)?;
     put_key(out, keys, key)?;
-    put_length(out, number, end)
+    out.put_length(number, end)
 }
 
 /// Puts the record of a map's key, where it is present.
