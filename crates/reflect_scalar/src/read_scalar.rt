@@ -4,12 +4,14 @@ ghost use Rattle.std.specs.Prelude.{◌≡◌, ◌<◌, length, IfOk, IfErr};
 ghost use Rattle.reflect_wire.specs.Reads.{ReadsBy};
 ghost use Rattle.reflect_wire.specs.Records.{varint};
 ghost use Rattle.reflect_scalar.specs.Kinds.{wire_type, packs};
-ghost use Rattle.reflect_scalar.specs.Meaning.{zigzag, low, StandsFor, MeaningFault, IsPlainPayload, PlainFault, IsScalar, ScalarFault};
+ghost use Rattle.reflect_scalar.specs.Meaning.{zigzag, StandsFor, MeaningFault, IsPlainPayload, PlainFault, IsScalar, ScalarFault};
 ghost use Rattle.reflect_scalar.specs.Singles.{scalar_view, wire_view};
 
 use crate::scalar::{Scalar, WireScalar};
 use reflect_pool::Kind;
-use reflect_wire::{WireError, WireType, delimited_at, fixed32_at, fixed64_at, varint_at};
+use reflect_wire::{
+    WireError, WireType, delimited_at, fixed32_at, fixed64_at, low_half, varint_at,
+};
 
 /// The wire type of one value of a kind: a message's is that of a length and its bytes.
 #[inline]
@@ -38,13 +40,6 @@ pub fn is_packable(kind: &Kind<'_>) -> bool
     wire_type(kind) != WireType::LengthDelimited
 }
 
-/// The low 32 bits.
-fn low(n: u64) -> u32
-    ensures { result ≡ low n }
-{
-    (n % (1 << 32)) as u32
-}
-
 /// The signed number that an unsigned one stands for where small amounts of either sign are to be
 /// short.
 fn unzigzag32(n: u32) -> i32
@@ -70,14 +65,14 @@ pub fn varint_scalar<'b>(kind: &Kind<'_>, n: u64) -> Result<Scalar<'b>, WireErro
     ensures err { IfErr result (MeaningFault kind.now (varint n)) }
 {
     match kind {
-        Kind::Int32 => Ok(Scalar::I32(low(n).cast_signed())),
+        Kind::Int32 => Ok(Scalar::I32(low_half(n).cast_signed())),
         Kind::Int64 => Ok(Scalar::I64(n.cast_signed())),
-        Kind::Uint32 => Ok(Scalar::U32(low(n))),
+        Kind::Uint32 => Ok(Scalar::U32(low_half(n))),
         Kind::Uint64 => Ok(Scalar::U64(n)),
-        Kind::Sint32 => Ok(Scalar::I32(unzigzag32(low(n)))),
+        Kind::Sint32 => Ok(Scalar::I32(unzigzag32(low_half(n)))),
         Kind::Sint64 => Ok(Scalar::I64(unzigzag64(n))),
         Kind::Bool => Ok(Scalar::Bool(n != 0)),
-        Kind::Enum(_) => Ok(Scalar::EnumNumber(low(n).cast_signed())),
+        Kind::Enum(_) => Ok(Scalar::EnumNumber(low_half(n).cast_signed())),
         _ => Err(WireError::BadWireType),
     }
 }

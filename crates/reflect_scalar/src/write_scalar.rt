@@ -1,7 +1,6 @@
 //! From a single value to the bytes of its record.
 
 ghost use Rattle.std.specs.Prelude.{◌≡◌, ◌<◌, ◌^◌, ◌++◌, length, option_map, is_some, IfSome, OnOk, SomeIff};
-ghost use Rattle.std.specs.Int.{w64, cast_unsigned};
 ghost use Rattle.reflect_codec.specs.Held.{held};
 ghost use Rattle.reflect_scalar.specs.Kinds.{suits};
 ghost use Rattle.reflect_scalar.specs.Meaning.{zigzag};
@@ -11,7 +10,7 @@ ghost use Rattle.reflect_scalar.specs.Written.{written, plain_bytes, IsFormOf, I
 use crate::scalar::{Scalar, WireScalar};
 use reflect_codec::Backward;
 use reflect_pool::Kind;
-use reflect_wire::{delimited_len, varint_len};
+use reflect_wire::{delimited_len, sign_extended, varint_len};
 use std::alloc::AllocError;
 
 /// The unsigned number that a signed one is written as where small amounts of either sign are to be
@@ -34,13 +33,6 @@ fn zigzag64(n: i64) -> u64
     } else {
         (-(n + 1)).cast_unsigned() * 2 + 1
     }
-}
-
-/// A negative number has the upper bits set.
-fn sign_extended(n: i32) -> u64
-    ensures { result ≡ cast_unsigned w64 n }
-{
-    i64::from(n).cast_unsigned()
 }
 
 // One function for each type of value: of a function's number the prover knows that it fits its
