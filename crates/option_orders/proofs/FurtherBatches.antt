@@ -1,8 +1,8 @@
 -- What batches of files say stays as further ones come.
 use Rattle.std.proofs.Common.{◌≡◌, List, [], ◌∷◌, ◌++◌, Some, subst}
 use Rattle.descriptor_records.specs.Content.{FileContent, Text}
-use Rattle.growing_texts.proofs.Files.{message_declared, stays}
-use Rattle.growing_texts.proofs.Wanted.{mapped}
+use Rattle.texts_view.proofs.Files.{message_declared, stays}
+use Rattle.texts_view.proofs.Wanted.{mapped}
 use Rattle.protobuf_model.specs.Types.{Name}
 use Rattle.reflect_pool.specs.Dots.{without_dot}
 use Rattle.schema_view.specs.Declarations.{MessageFacts}

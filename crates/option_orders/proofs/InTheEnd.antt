@@ -3,8 +3,8 @@
 use Rattle.std.proofs.Common.{◌≡◌, ◌∙◌, ℕ, ℤ, List, ◌++◌, map, Option, None, Some, Contains, ap, sym, subst}
 use Rattle.descriptor_records.specs.Content.{FileContent, OptionContent, Text, file_view, options_view}
 use Rattle.descriptor_records.specs.declared.options.Options.{Options}
-use Rattle.growing_texts.specs.Declared.{is_declared}
-use Rattle.growing_texts.proofs.Files.{back, built_entries, files_say_all}
+use Rattle.texts_view.specs.Declared.{is_declared}
+use Rattle.texts_view.proofs.Files.{back, built_entries, files_say_all}
 use Rattle.known_messages.specs.KnownMessages.{KnowsAll}
 use Rattle.known_messages.proofs.Written.{known_alike}
 use Rattle.message_view.specs.Sound.{IsSound}

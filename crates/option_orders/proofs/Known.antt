@@ -1,10 +1,10 @@
 -- Of a message in which options are set the type knows all, if it did before.
 use Rattle.std.proofs.Common.{◌≡◌, ℕ, ℤ, zero, suc, Bool, List, [], ◌∷◌, Option, Some, refl, sym, ap, subst}
 use Rattle.descriptor_records.specs.Content.{NameContent, OptionContent}
-use Rattle.growing_texts.specs.SaysAll.{HaveEntryValues}
-use Rattle.growing_texts.proofs.Given.{given_known}
-use Rattle.growing_texts.proofs.Wanted.{mapped}
-use Rattle.growing_texts.proofs.Known.{IsKnownIn, add_all_known, set_known, settled_known}
+use Rattle.texts_view.specs.SaysAll.{HaveEntryValues}
+use Rattle.texts_view.proofs.Given.{given_known}
+use Rattle.texts_view.proofs.Wanted.{mapped}
+use Rattle.texts_view.proofs.Known.{IsKnownIn, add_all_known, set_known, settled_known}
 use Rattle.known_messages.specs.KnownMessages.{KnowsAll, KnowsContent, KnowsHeld}
 use Rattle.option_orders.specs.SetOptions.{Gets, Leads, Says, SetsAll, SetsLast, SetsParts}
 use Rattle.option_setter.specs.OptionValues.{scalar_said}

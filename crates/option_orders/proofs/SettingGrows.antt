@@ -2,9 +2,9 @@
 use Rattle.std.proofs.Common.{◌≡◌, ℕ, ℤ, zero, suc, Bool, true, List, [], ◌∷◌, Option, None, Some, option_map, refl, sym, ap, ◌∙◌, subst}
 use mathlib.Core.Path.{fun_ext}
 use Rattle.descriptor_records.specs.Content.{NameContent, OptionContent}
-use Rattle.growing_texts.specs.SaysAll.{HaveEntryValues, SaysAll}
-use Rattle.growing_texts.proofs.Adding.{add_all_same, assign_same}
-use Rattle.growing_texts.proofs.Grown.{given_again}
+use Rattle.texts_view.specs.SaysAll.{HaveEntryValues, SaysAll}
+use Rattle.texts_view.proofs.Adding.{add_all_same, assign_same}
+use Rattle.texts_view.proofs.Grown.{given_again}
 use Rattle.option_orders.specs.SetOptions.{Gets, Leads, Says, SetsAll, SetsLast, SetsParts}
 use Rattle.option_setter.specs.OptionValues.{scalar_said}
 use Rattle.protobuf_model.specs.Types.{Name, Frame, Kind, scalar, nested, Label, one, many, keyed, Field, oneof_of}

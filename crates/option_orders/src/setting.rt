@@ -4,7 +4,7 @@
 //! gives the number that a part of a name leads to in a message of a type.
 ghost use Rattle.std.specs.Prelude.{◌≡◌, ℕ, ℤ, List, Bool, true, Option};
 ghost use Rattle.descriptor_records.specs.Content.{NameContent, OptionContent};
-ghost use Rattle.growing_texts.specs.SaysAll.{HaveEntryValues, SaysAll};
+ghost use Rattle.texts_view.specs.SaysAll.{HaveEntryValues, SaysAll};
 ghost use Rattle.known_messages.specs.KnownMessages.{KnowsAll};
 ghost use Rattle.option_orders.specs.SetOptions.{SetsAll, leads_by};
 ghost use Rattle.protobuf_model.specs.Types.{Name};

@@ -2,7 +2,7 @@
 use Rattle.std.proofs.Common.{List, [], ◌∷◌, map, ap, sym, subst, arith, rules}
 use Rattle.descriptor_records.specs.Content.{FileContent, file_view}
 use Rattle.descriptor_records.specs.declared.file.FileDescriptorProto.{FileDescriptorProto}
-use Rattle.linked_alike.specs.ReadOptions.{read_file}
+use Rattle.texts_view.specs.ReadOptions.{read_file}
 use Rattle.linked_names.proofs.Accepted.{accepted_apart}
 use Rattle.option_parts.specs.OptionTypes.{CanRead}
 use Rattle.option_parts.specs.declared.option_scope.OptionScope.{OptionScope}

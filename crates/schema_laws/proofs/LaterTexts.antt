@@ -26,10 +26,10 @@ use Rattle.types_view.proofs.Extended.{found_there, none_found}
 use Rattle.texts_view.specs.Named as named
 use Rattle.texts_view.specs.Named.{schema_in}
 use Rattle.texts_view.proofs.Settled.{settled_names}
-use Rattle.growing_texts.specs.Declared.{is_declared}
-use Rattle.growing_texts.proofs.Batches.{further, is_there}
-use Rattle.growing_texts.proofs.Files.{IsAsBefore}
-use Rattle.growing_texts.proofs.Wanted.{mapped}
+use Rattle.texts_view.specs.Declared.{is_declared}
+use Rattle.texts_view.proofs.Batches.{further, is_there}
+use Rattle.texts_view.proofs.Files.{IsAsBefore}
+use Rattle.texts_view.proofs.Wanted.{mapped}
 use Rattle.schema_core.specs.Payloads.{Encoded}
 use Rattle.schema_core.specs.Refusals.{IsKnown, IsNoText, IsUnknown}
 use Rattle.schema_laws.proofs.Encoding.{IsGiven, encoded, refused}

@@ -2,8 +2,8 @@
 use Rattle.std.proofs.Common.{rules, ◌≡◌, ◌<◌, ◌^◌, ◌∙◌, List, [], map, length, Option, None, Some, inl, inr, ap, refl, sym, subst}
 use Rattle.descriptor_records.specs.Content.{file_view}
 use Rattle.descriptor_records.specs.declared.file.FileDescriptorProto.{FileDescriptorProto}
-use Rattle.linked_alike.specs.ReadOptions.{read_file}
-use Rattle.linked_alike.proofs.Alike.{stand_again}
+use Rattle.texts_view.specs.ReadOptions.{read_file}
+use Rattle.texts_view.proofs.Alike.{stand_again}
 use Rattle.linked_view.proofs.Together.{empty_built}
 use Rattle.message_view.specs.Sound.{IsSound}
 use Rattle.option_bytes.specs.StoredBytes.{StoresBytes}

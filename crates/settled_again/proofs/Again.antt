@@ -4,10 +4,10 @@ use Rattle.std.specs.List.{AllByRecursion}
 use Rattle.descriptor_records.specs.Content.{FileContent, OptionsContent, file_view, options_view}
 use Rattle.descriptor_records.specs.declared.file.FileDescriptorProto.{FileDescriptorProto}
 use Rattle.descriptor_records.specs.declared.options.Options.{Options}
-use Rattle.linked_alike.specs.ReadOptions.{read_file}
-use Rattle.linked_alike.proofs.Alike.{only_stand}
-use Rattle.linked_alike.proofs.ReadNames.{names_alike}
-use Rattle.linked_alike.proofs.ReadTypes.{types_alike}
+use Rattle.texts_view.specs.ReadOptions.{read_file}
+use Rattle.texts_view.proofs.Alike.{only_stand}
+use Rattle.texts_view.proofs.ReadNames.{names_alike}
+use Rattle.texts_view.proofs.ReadTypes.{types_alike}
 use Rattle.linked_view.proofs.Completes.{all_mapped}
 use Rattle.message_view.specs.Sound.{IsSound}
 use Rattle.message_view.specs.Types.{types_of}

@@ -6,7 +6,7 @@ use Rattle.std.specs.List.{AllByRecursion}
 use Rattle.descriptor_records.specs.Content.{FileContent, OptionsContent, file_view, options_view}
 use Rattle.descriptor_records.specs.declared.file.FileDescriptorProto.{FileDescriptorProto}
 use Rattle.descriptor_records.specs.declared.options.Options.{Options}
-use Rattle.linked_alike.specs.ReadOptions.{read_file, read_options}
+use Rattle.texts_view.specs.ReadOptions.{read_file, read_options}
 use Rattle.message_view.specs.Sound.{IsSound}
 use Rattle.option_parts.specs.OptionTypes.{CanRead}
 use Rattle.option_setter.specs.declared.option_setter.NameScope.{NameScope}

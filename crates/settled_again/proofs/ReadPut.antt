@@ -5,7 +5,7 @@ use Rattle.std.specs.List.{AllByRecursion}
 use Rattle.std.specs.Option.{option_map}
 use Rattle.std.specs.Ordering.{int_eq}
 use Rattle.descriptor_records.specs.Content.{EnumContent, EnumValueContent, ExtensionRangeContent, FieldContent, FileContent, MessageContent, message, MessageContents, more_messages, no_messages, MethodContent, OneofContent, OptionsContent, ServiceContent, options_view}
-use Rattle.linked_alike.specs.ReadOptions.{read_enum, read_field, read_file, read_message, read_messages, read_method, read_oneof, read_options, read_range, read_service, read_value}
+use Rattle.texts_view.specs.ReadOptions.{read_enum, read_field, read_file, read_message, read_messages, read_method, read_oneof, read_options, read_range, read_service, read_value}
 use Rattle.reflect_growth.specs.Put.{edited, enum_put, field_put, file_put, message_put, method_put, nested_at, oneof_put, own_put, path_put, put_in, put_nested, range_put, service_put, value_put, with_at}
 use Rattle.reflect_growth.specs.declared.settle.Edit.{Edit}
 use Rattle.reflect_growth.specs.declared.settle.Edit.TheVariants as edits

@@ -1,7 +1,7 @@
 -- Options in the records of a pool that sources made.
 use Rattle.std.specs.Prelude.{◌≡◌, ◌⊎◌, ℕ, map}
 use Rattle.descriptor_records.specs.Content.{OptionsContent, file_view}
-use Rattle.linked_alike.specs.ReadOptions.{read_file}
+use Rattle.texts_view.specs.ReadOptions.{read_file}
 use Rattle.message_view.specs.Types.{types_of}
 use Rattle.option_parts.specs.OptionTypes.{IsNamedType}
 use Rattle.option_parts.specs.declared.option_scope.OptionScope.{OptionScope}

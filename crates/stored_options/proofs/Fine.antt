@@ -1,7 +1,7 @@
 -- Messages of options as they are settled: in shape and exclusive at each depth, of their types,
 -- which know all of them. So are those that texts make.
 use Rattle.std.proofs.Common.{◌≡◌, ◌≤◌, ℕ, suc, Option, None, true, refl, sym, ap, ◌∙◌, subst, arith}
-use Rattle.growing_texts.proofs.Given.{given_known}
+use Rattle.texts_view.proofs.Given.{given_known}
 use Rattle.known_messages.specs.KnownMessages.{KnowsAll, KnowsHeld}
 use Rattle.message_view.specs.Shaped.{Exclusive}
 use Rattle.message_view.specs.Sound.{IsSound}

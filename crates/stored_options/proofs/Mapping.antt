@@ -1,8 +1,8 @@
 -- A fine message into a map of which a fine entry is put is fine still.
 use Rattle.std.proofs.Common.{◌≡◌, ℕ, suc, true, false, cond, List, [], ◌∷◌, Option, None, Some, refl, sym, ap, ◌∙◌, subst}
 use Rattle.std.specs.List.{AllByRecursion}
-use Rattle.growing_texts.proofs.Given.{value_known}
-use Rattle.growing_texts.proofs.Known.{add_all_known}
+use Rattle.texts_view.proofs.Given.{value_known}
+use Rattle.texts_view.proofs.Known.{add_all_known}
 use Rattle.known_messages.specs.KnownMessages.{KnowsAll, KnowsContent, KnowsHeld}
 use Rattle.message_view.specs.Shaped.{Exclusive, FitsAs, FitsShaped}
 use Rattle.message_view.specs.Singles as views

@@ -3,7 +3,7 @@
 use Rattle.std.proofs.Common.{◌≡◌, ◌⊎◌, inl, inr, ℕ, suc, true, false, List, [], ◌∷◌, ◌++◌, Some, unwrap_or, refl, sym, ap, ◌∙◌, subst}
 use Rattle.std.proofs.lemmas.Bool.Decides.{eqb_tells}
 use Rattle.std.specs.Prelude.{IfSome}
-use Rattle.growing_texts.proofs.Known.{add_all_known, set_known, settled_known}
+use Rattle.texts_view.proofs.Known.{add_all_known, set_known, settled_known}
 use Rattle.known_messages.specs.KnownMessages.{KnowsAll, KnowsContent, KnowsHeld}
 use Rattle.message_view.specs.Shaped.{Exclusive, FitsOne, FitsShaped, IsShaped}
 use Rattle.message_view.specs.Sound.{IsSound}

@@ -1,1 +1,4 @@
 pub mod Named
+pub mod ReadOptions
+pub mod Declared
+pub mod SaysAll

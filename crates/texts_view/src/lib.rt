@@ -3,4 +3,6 @@
 //! anything.
 #![tactic(auto)]
 
+pub mod growth;
 pub mod laws;
+pub mod other_options;

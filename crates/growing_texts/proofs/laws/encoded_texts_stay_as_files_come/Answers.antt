@@ -1,8 +1,0 @@
-use Rattle.growing_texts.proofs.Batches.{bytes_stay, given_stays}
-use Rattle.growing_texts.proofs.laws.encoded_texts_stay_as_files_come.Goals as goal
-
-pub returns-clause-given : goal.returns-clause-given
-returns-clause-given c = given_stays
-
-pub returns-clause-written : goal.returns-clause-written
-returns-clause-written c = bytes_stay

@@ -1,2 +1,0 @@
-pub mod Declared
-pub mod SaysAll
