@@ -17,7 +17,7 @@ use Rattle.reflect_format.specs.Takes.{target_type}
 use Rattle.reflect_message.specs.Names.{DynamicMessage}
 use Rattle.reflect_options.specs.Settled.{SetsAll}
 use Rattle.reflect_pool.specs.declared.message.MessageDescriptor.{MessageDescriptor}
-use Rattle.settled_options.proofs.Kept.{parts_type}
+use Rattle.settled_records.proofs.Kept.{parts_type}
 use Rattle.text_model.specs.Schemas.{Schema}
 use Rattle.text_model.specs.Value.{assign}
 use Rattle.text_view.specs.Schemas.{schema_of}

@@ -23,7 +23,7 @@ use Rattle.reflect_pool.specs.declared.extension.ExtensionDescriptor.{ExtensionD
 use Rattle.reflect_pool.specs.declared.message.MessageDescriptor.{MessageDescriptor}
 use Rattle.reflect_scalar.specs.FieldTypes.{extension_type}
 use Rattle.reflect_tables.specs.Types.{FieldType, PoolType, extension_at, no_extension, no_field, no_type, type_of_field}
-use Rattle.settled_options.proofs.Fields.{first_field, same_field}
+use Rattle.settled_records.proofs.Fields.{first_field, same_field}
 use Rattle.option_orders.specs.NamedNumbers.{numbers_named}
 use Rattle.option_orders.proofs.Spared.{Spares}
 

@@ -41,8 +41,8 @@ use Rattle.reflect_pool.specs.declared.field.FieldDescriptor.{FieldDescriptor}
 use Rattle.reflect_pool.specs.declared.message.MessageDescriptor.{MessageDescriptor}
 use Rattle.reflect_tables.specs.Types.{no_type}
 use Rattle.set_view.specs.Puts.{IsUnset}
-use Rattle.settled_options.proofs.Kept.{type_kept}
-use Rattle.settled_options.proofs.Stored.{list_unset}
+use Rattle.settled_records.proofs.Kept.{type_kept}
+use Rattle.settled_records.proofs.Stored.{list_unset}
 use Rattle.stored_options.proofs.Again.{list_field, stored_view}
 use Rattle.stored_options.proofs.Along.{HaveFewBits, above, all_fine}
 use Rattle.stored_options.proofs.Fine.{IsFine}

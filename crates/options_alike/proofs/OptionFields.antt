@@ -15,7 +15,7 @@ use Rattle.reflect_pool.specs.Shapes.{holds_map, is_entry, is_repeated}
 use Rattle.reflect_print.specs.Named.{type_name}
 use Rattle.reflect_print.specs.Named as print
 use Rattle.reflect_tables.specs.Types.{FieldType, KindType, PoolType, bool, message}
-use Rattle.settled_options.proofs.Fields.{listed_whole, truth_whole}
+use Rattle.settled_records.proofs.Fields.{listed_whole, truth_whole}
 use Rattle.text_view.proofs.Places.{plain_label}
 use Rattle.text_view.specs.Schemas.{shape_at}
 

@@ -7,8 +7,8 @@ use Rattle.option_parts.specs.OptionTypes.{IsNamedType, type_name}
 use Rattle.option_parts.specs.declared.option_scope.OptionScope.{OptionScope}
 use Rattle.protox_lex.specs.Class.{Text}
 use Rattle.reflect_tables.specs.Types.{MessageType, PoolType, type_at}
-use Rattle.settled_options.proofs.Said.{no_dot}
-use Rattle.settled_options.proofs.ScopeTypes.{found_named, is_named, named_found}
+use Rattle.settled_records.proofs.Said.{no_dot}
+use Rattle.settled_records.proofs.ScopeTypes.{found_named, is_named, named_found}
 use Rattle.text_view.specs.Schemas.{type_called}
 
 -- the full name of a type, if there is one

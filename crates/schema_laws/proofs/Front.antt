@@ -6,8 +6,8 @@ use Rattle.protobuf_model.proofs.Arranged.{all_append}
 use Rattle.reflect_growth.specs.declared.settle.Edit.{Edit}
 use Rattle.reflect_options.specs.Settling.{SettlesFiles, SettlesPool}
 use Rattle.reflect_tables.specs.Types.{PoolType}
-use Rattle.settled_alike.proofs.Changes.{IsElsewhere, edits_elsewhere}
-use Rattle.settled_alike.proofs.Placed.{all_elsewhere, file_edits}
+use Rattle.settled_records.proofs.Changes.{IsElsewhere, edits_elsewhere}
+use Rattle.settled_records.proofs.Placed.{all_elsewhere, file_edits}
 
 -- edits of files behind one of them leave it
 files_behind : (pool : PoolType) (first n k : ℕ) (es : List Edit) → k < first → SettlesFiles pool first n es → AllByRecursion (IsElsewhere k) es

@@ -31,10 +31,10 @@ use Rattle.reflect_tables.specs.Views.{record_file}
 use Rattle.schema_view.specs.Lawful.{Builds, SameFiles, sources}
 use Rattle.schema_view.specs.Plain.{IsPlainFile as HasPlainName}
 use Rattle.settled_again.specs.HeldOptions.{HasType}
-use Rattle.settled_alike.specs.Alike.{AllSettleAlike, IsSameEntity, SettleAlike}
-use Rattle.settled_alike.proofs.Pools.{settle_alike}
-use Rattle.settled_alike.proofs.Walk.{same_entities}
-use Rattle.settled_options.proofs.Said.{no_dot}
+use Rattle.settled_records.specs.Alike.{AllSettleAlike, IsSameEntity, SettleAlike}
+use Rattle.settled_records.proofs.Pools.{settle_alike}
+use Rattle.settled_records.proofs.Walk.{same_entities}
+use Rattle.settled_records.proofs.Said.{no_dot}
 use Rattle.settled_records.proofs.AllOptions.{Said, file_keeps}
 use Rattle.settled_records.proofs.InEntities.{entities_of}
 use Rattle.settled_records.proofs.OfEntities.{Meets}

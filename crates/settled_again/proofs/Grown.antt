@@ -25,8 +25,8 @@ use Rattle.texts_view.proofs.Settled.{settled_names}
 use Rattle.types_view.specs.Pools.{IsKept}
 use Rattle.types_view.specs.Typed.{IsTyped}
 use Rattle.types_view.proofs.Settled.{settled_types}
-use Rattle.settled_options.proofs.Said.{no_dot}
-use Rattle.settled_options.proofs.ScopeTypes.{found_named, is_named, named_found}
+use Rattle.settled_records.proofs.Said.{no_dot}
+use Rattle.settled_records.proofs.ScopeTypes.{found_named, is_named, named_found}
 use Rattle.settled_again.specs.HeldOptions.{AreHeld, HasType}
 
 -- ---- types of options that a pool has

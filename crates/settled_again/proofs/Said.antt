@@ -17,7 +17,7 @@ use Rattle.reflect_pool.specs.Dots.{without_dot}
 use Rattle.reflect_pool.specs.declared.message.MessageDescriptor.{MessageDescriptor}
 use Rattle.reflect_tables.specs.Finding.{IsFirst}
 use Rattle.reflect_tables.specs.Types.{PoolType}
-use Rattle.settled_options.proofs.Said.{no_dot}
+use Rattle.settled_records.proofs.Said.{no_dot}
 use Rattle.settled_records.proofs.InEntities.{entities_of}
 use Rattle.settled_records.proofs.OfEntities.{Meets}
 use Rattle.settled_records.proofs.PlainOptions.{file_of, said}

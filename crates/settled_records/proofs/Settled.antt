@@ -40,7 +40,7 @@ use Rattle.protobuf_model.proofs.Arranged.{all_append}
 use Rattle.plain_records.specs.PlainRecords.{ArePlainFiles, ArePlainLocations, FitsInt32, IfThere, IsInside, IsPlainFile, IsPlainLocation}
 use Rattle.plain_records.specs.SaidOptions.{SaysOrWaits}
 use Rattle.settled_records.proofs.Entities.{Suited, file_suits}
-use Rattle.settled_options.proofs.Said.{view_says}
+use Rattle.settled_records.proofs.Said.{view_says}
 use Rattle.settled_records.proofs.Put.{SuitsFile, at_plain, file_plain, path_plain}
 
 -- ---- paths

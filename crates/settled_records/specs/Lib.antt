@@ -1,1 +1,2 @@
 pub mod Themselves
+pub mod Alike

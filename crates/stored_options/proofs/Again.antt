@@ -39,9 +39,9 @@ use Rattle.reflect_tables.specs.Types.{FieldType}
 use Rattle.reflect_wire.specs.Written.{AreBytes}
 use Rattle.set_view.specs.Puts.{IsUnset}
 use Rattle.set_view.proofs.Viewed.{field_unset}
-use Rattle.settled_options.proofs.Fields.{field_known, listed_whole}
-use Rattle.settled_options.proofs.Said.{view_says}
-use Rattle.settled_options.proofs.Stored.{list_unset}
+use Rattle.settled_records.proofs.Fields.{field_known, listed_whole}
+use Rattle.settled_records.proofs.Said.{view_says}
+use Rattle.settled_records.proofs.Stored.{list_unset}
 use Rattle.stored_options.specs.StoredOptions.{AreStored}
 use Rattle.stored_options.proofs.Alike.{one_record}
 use Rattle.stored_options.proofs.Scoped.{of_type, option_type, type_sound}

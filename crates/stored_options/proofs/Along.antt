@@ -20,7 +20,7 @@ use Rattle.reflect_pool.specs.Shapes.{holds_list, holds_map}
 use Rattle.reflect_pool.specs.declared.kind.Kind.TheVariants as values
 use Rattle.reflect_pool.specs.declared.message.MessageDescriptor.{MessageDescriptor}
 use Rattle.reflect_tables.specs.Types.{FieldType, PoolType}
-use Rattle.settled_options.proofs.Kept.{parts_type}
+use Rattle.settled_records.proofs.Kept.{parts_type}
 use Rattle.text_view.proofs.Given.{entry_kind}
 use Rattle.text_view.proofs.Once.{second}
 use Rattle.text_view.proofs.Owned.{OwnsTarget, pool_is}

@@ -21,8 +21,8 @@ use Rattle.reflect_message.specs.Held.{UpdatesField}
 use Rattle.reflect_message.specs.Names.{DynamicMessage}
 use Rattle.reflect_options.specs.Settled.{IsType, Settles, is_forbidden, truth_in, truth_said}
 use Rattle.text_view.specs.SourceNames.{HaveOwnNames}
-use Rattle.settled_options.proofs.Kept.{type_kept}
-use Rattle.settled_options.proofs.Stored.{list_unset}
+use Rattle.settled_records.proofs.Kept.{type_kept}
+use Rattle.settled_records.proofs.Stored.{list_unset}
 use Rattle.stored_options.proofs.OwnTruth.{all_tell, said_at, truth_at}
 use Rattle.stored_options.proofs.Copied.{read_copied}
 use Rattle.stored_options.proofs.Scoped.{option_type, type_sound}

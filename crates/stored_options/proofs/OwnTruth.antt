@@ -50,8 +50,8 @@ use Rattle.reflect_scalar.specs.FieldTypes.{field_pool}
 use Rattle.reflect_scalar.specs.Singles as held
 use Rattle.reflect_tables.specs.Types.{FieldType, PoolType, no_field, type_of_field}
 use Rattle.reflect_tables.specs.Types as types
-use Rattle.settled_options.proofs.Fields.{first_field, same_field}
-use Rattle.settled_options.proofs.Kept.{none_many, type_kept}
+use Rattle.settled_records.proofs.Fields.{first_field, same_field}
+use Rattle.settled_records.proofs.Kept.{none_many, type_kept}
 use Rattle.text_view.specs.SourceNames.{HaveOwnNames}
 use Rattle.text_view.proofs.Set.{singled}
 use Rattle.stored_options.proofs.Owning.{left_exclusive, left_type, option_exclusive}

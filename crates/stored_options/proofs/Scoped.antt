@@ -21,8 +21,8 @@ use Rattle.message_view.specs.Sound.{IsSound}
 use Rattle.message_view.specs.Types.{either_field, entry_part, field_at, field_of, key_of, kind_in, name_at, oneof_at, types_of, values_of}
 use Rattle.message_view.proofs.Sound.{named}
 use Rattle.known_messages.specs.KnownMessages.{AreFormOf}
-use Rattle.settled_options.proofs.Fields.{truth_whole}
-use Rattle.settled_options.proofs.Said.{no_dot}
+use Rattle.settled_records.proofs.Fields.{truth_whole}
+use Rattle.settled_records.proofs.Said.{no_dot}
 use Rattle.stored_options.proofs.EntryMessage.{entry_formed, entry_message}
 
 -- ---- a type of the scope's name

@@ -45,8 +45,8 @@ use Rattle.reflect_pool.specs.declared.field.FieldDescriptor.{FieldDescriptor}
 use Rattle.reflect_pool.specs.declared.message.MessageDescriptor.{MessageDescriptor}
 use Rattle.reflect_wire.specs.Views.{records_of}
 use Rattle.reflect_wire.specs.Written.{AreBytes}
-use Rattle.settled_options.proofs.Kept.{type_kept}
-use Rattle.settled_options.proofs.Stored.{list_unset}
+use Rattle.settled_records.proofs.Kept.{type_kept}
+use Rattle.settled_records.proofs.Stored.{list_unset}
 use Rattle.stored_options.specs.StoredOptions.{AreStored}
 use Rattle.stored_options.proofs.Again.{list_field, no_items, same_bytes, short, stored_view}
 use Rattle.stored_options.proofs.Along.{HaveFewBits, above, all_fine}

@@ -36,7 +36,7 @@ use Rattle.reflect_tables.specs.Types.{FieldType, PoolType}
 use Rattle.reflect_tables.specs.Types as types
 use Rattle.reflect_wire.specs.Records.{Payload, varint}
 use Rattle.reflect_wire.specs.Views.{records_of}
-use Rattle.settled_options.proofs.Fields.{field_known, holds_one, truth_whole}
+use Rattle.settled_records.proofs.Fields.{field_known, holds_one, truth_whole}
 use Rattle.stored_options.proofs.Alike.{one_truth}
 use Rattle.stored_options.proofs.OwnTruth.{said_at, truth_at}
 

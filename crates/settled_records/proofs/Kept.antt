@@ -39,7 +39,7 @@ use Rattle.protobuf_model.specs.Values.{Single}
 use Rattle.message_view.specs.Singles.{single_view}
 use Rattle.message_view.specs.Sound.{IsSound}
 use Rattle.reflect_options.specs.Settled.{SetsAll}
-use Rattle.settled_options.proofs.Fields.{holds_one, same_field, truth_whole}
+use Rattle.settled_records.proofs.Fields.{holds_one, same_field, truth_whole}
 
 -- what stands there, if anything does, is no message, no list and no map
 abbrev pub IsPlain : Option Value → Type 0

@@ -6,7 +6,7 @@ ghost use Rattle.descriptor_records.specs.declared.file.FileDescriptorProto.{Fil
 ghost use Rattle.reflect_options.specs.Entities.{file_entities};
 ghost use Rattle.reflect_options.specs.Settling.{SettlesPool};
 ghost use Rattle.reflect_tables.specs.Types.{PoolType};
-ghost use Rattle.settled_alike.specs.Alike.{AllSettleAlike, IsSameEntity};
+ghost use Rattle.settled_records.specs.Alike.{AllSettleAlike, IsSameEntity};
 
 /// Records of one content have the same entities, one after another, whatever their files' indexes.
 pub fn records_of_one_content_have_the_same_entities()

@@ -13,7 +13,7 @@ use Rattle.reflect_names.specs.Spans.{locations}
 use Rattle.reflect_options.specs.Entities.{Entity, file_entities}
 use Rattle.reflect_options.specs.Settling.{IsScopeOf, Move, SettlesAll, SettlesEntity, SettlesFile, SettlesFiles, SettlesIn, target_in}
 use Rattle.reflect_tables.specs.Types.{PoolType}
-use Rattle.settled_alike.proofs.Changes.{IsElsewhere, IsOf}
+use Rattle.settled_records.proofs.Changes.{IsElsewhere, IsOf}
 use Rattle.settled_records.proofs.AllOptions.{Said, file_keeps}
 use Rattle.settled_records.proofs.InEntities.{entities_of}
 use Rattle.settled_records.proofs.OfEntities.{Meets}

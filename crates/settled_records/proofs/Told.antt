@@ -8,7 +8,7 @@ use Rattle.option_parts.specs.declared.option_scope.OptionScope.TheVariants as s
 use Rattle.reflect_declarations.specs.Declarations.{each, entry}
 use Rattle.reflect_options.specs.Entities.{Entity}
 use Rattle.reflect_scope.specs.Means.{join}
-use Rattle.settled_alike.specs.Alike.{IsSameEntity}
+use Rattle.settled_records.specs.Alike.{IsSameEntity}
 
 -- what is told of an entity, whatever its file
 pub record Told : Type 0 where

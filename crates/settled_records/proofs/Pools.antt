@@ -17,11 +17,11 @@ use Rattle.reflect_names.specs.Spans.{locations}
 use Rattle.reflect_options.specs.Entities.{Entity, file_entities}
 use Rattle.reflect_options.specs.Settling.{IsScopeOf, Move, SettlesAll, SettlesEntity, SettlesFile, SettlesFiles, SettlesIn, SettlesPool, moves_from, options_path, target_in}
 use Rattle.reflect_tables.specs.Types.{PoolType}
-use Rattle.settled_alike.proofs.Changes.{Change, change_of, changed, edits_elsewhere, edits_there}
-use Rattle.settled_alike.proofs.Moved.{locations_alike, same_locations}
-use Rattle.settled_alike.proofs.Placed.{all_elsewhere, file_edits, files_elsewhere}
-use Rattle.settled_alike.proofs.Walk.{same_entities}
-use Rattle.settled_alike.specs.Alike.{AllSettleAlike, IsSameEntity, SettleAlike}
+use Rattle.settled_records.proofs.Changes.{Change, change_of, changed, edits_elsewhere, edits_there}
+use Rattle.settled_records.proofs.Moved.{locations_alike, same_locations}
+use Rattle.settled_records.proofs.Placed.{all_elsewhere, file_edits, files_elsewhere}
+use Rattle.settled_records.proofs.Walk.{same_entities}
+use Rattle.settled_records.specs.Alike.{AllSettleAlike, IsSameEntity, SettleAlike}
 
 -- what settles an entity of a pool by its options
 abbrev By : PoolType → Entity → List Edit → List Move → Option Options → Type 0

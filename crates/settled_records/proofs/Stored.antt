@@ -25,9 +25,9 @@ use Rattle.reflect_numbered.specs.Called.{HasNumber, UnsetsMeant}
 use Rattle.option_parts.specs.OptionTypes.{ListsMessages}
 use Rattle.message_view.specs.Sound.{IsSound}
 use Rattle.message_view.proofs.Fields.{known}
-use Rattle.settled_options.proofs.Fields.{field_known, field_meant, holds_one, listed_whole, truth_whole}
-use Rattle.settled_options.proofs.Kept.{IsPlain, PlainAt, none_plain, some_plain}
-use Rattle.settled_options.proofs.Under.{Lacks}
+use Rattle.settled_records.proofs.Fields.{field_known, field_meant, holds_one, listed_whole, truth_whole}
+use Rattle.settled_records.proofs.Kept.{IsPlain, PlainAt, none_plain, some_plain}
+use Rattle.settled_records.proofs.Under.{Lacks}
 
 lacks_from : (n : ℕ) (rs : List (ℕ × Payload)) → numbered n rs ≡ [] → Lacks n rs
 lacks_from n [] e = tt

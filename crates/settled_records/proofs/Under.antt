@@ -16,8 +16,8 @@ use Rattle.reflect_message.specs.Names as held
 use Rattle.reflect_message.specs.Names.{DynamicMessage}
 use Rattle.message_view.proofs.Forms.{bytes_opened}
 use Rattle.protobuf_model.proofs.Bridge.{bytes_join}
-use Rattle.settled_options.proofs.Fronts.{Alike, AreAlike, read_alike}
-use Rattle.settled_options.proofs.Written.{AllOf, OfExtensions, all_forms, declared_written, one_behind, others, others_written, no_bytes, written}
+use Rattle.settled_records.proofs.Fronts.{Alike, AreAlike, read_alike}
+use Rattle.settled_records.proofs.Written.{AllOf, OfExtensions, all_forms, declared_written, one_behind, others, others_written, no_bytes, written}
 
 -- no record is of the number
 abbrev pub Lacks : ℕ → List (ℕ × Payload) → Type 0

@@ -27,11 +27,11 @@ use Rattle.reflect_wire.specs.Records.{Records, SpellsRecords}
 use Rattle.reflect_wire.specs.Views.{records_of}
 use Rattle.message_view.specs.Sound.{IsSound}
 use Rattle.plain_records.specs.Kinds.{kind_of}
-use Rattle.settled_options.proofs.Fields.{field_declared, field_known, listed_whole, no_extension, truth_whole}
-use Rattle.settled_options.proofs.Kept.{PlainAt, all_kept, all_others, type_kept, unset_field}
-use Rattle.settled_options.proofs.Stored.{list_unset, stored_lacks, stored_plain}
-use Rattle.settled_options.proofs.Truths.{truth_read}
-use Rattle.settled_options.proofs.Under.{Lacks, Writes, message_under, none_read}
+use Rattle.settled_records.proofs.Fields.{field_declared, field_known, listed_whole, no_extension, truth_whole}
+use Rattle.settled_records.proofs.Kept.{PlainAt, all_kept, all_others, type_kept, unset_field}
+use Rattle.settled_records.proofs.Stored.{list_unset, stored_lacks, stored_plain}
+use Rattle.settled_records.proofs.Truths.{truth_read}
+use Rattle.settled_records.proofs.Under.{Lacks, Writes, message_under, none_read}
 
 module _ (d : MessageDescriptor) (sound : IsSound d.pool.now) (bytes : List ℕ) (stored set whole : DynamicMessage) (spelled : IsSpelled d bytes stored) (there : stored.descriptor ≡ d)
     (s : NameScope) (os : List UninterpretedOption) (paths : List (List ℤ)) (sets : SetsAll s os stored set paths) (unsets : UnsetsMeant (HasNumber 999) set whole)

@@ -22,8 +22,8 @@ use Rattle.reflect_options.specs.Entities.{entities, file_entities, no_offsets, 
 use Rattle.reflect_scope.specs.Means.{join}
 use Rattle.linked_view.proofs.Walked.{tree_content, trees_content}
 use Rattle.settled_records.proofs.Entities.{types_are}
-use Rattle.settled_alike.proofs.Told.{Told, all_told_same, enum_tells, extension_tells, field_tells, file_tells, message_tells, messages_tell, method_tells, named_service_tells, oneof_tells, package_tells, parts_tell, range_tells, service_tells, tells, text_in, told, value_tells}
-use Rattle.settled_alike.specs.Alike.{IsSameEntity}
+use Rattle.settled_records.proofs.Told.{Told, all_told_same, enum_tells, extension_tells, field_tells, file_tells, message_tells, messages_tell, method_tells, named_service_tells, oneof_tells, package_tells, parts_tell, range_tells, service_tells, tells, text_in, told, value_tells}
+use Rattle.settled_records.specs.Alike.{IsSameEntity}
 
 -- what is told of the entities of declarations
 abbrev tell : List Declaration → List Told

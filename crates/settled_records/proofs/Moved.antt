@@ -12,8 +12,8 @@ use Rattle.option_parts.specs.Moves.{EditsLocation, EditsLocations, MovesTo, Tar
 use Rattle.reflect_growth.specs.Put.{path_put}
 use Rattle.reflect_growth.specs.declared.settle.Edit.{Edit}
 use Rattle.reflect_names.specs.Spans.{locations}
-use Rattle.settled_alike.proofs.Changes.{Change, change_of}
-use Rattle.settled_alike.proofs.Told.{head_is, tail_is}
+use Rattle.settled_records.proofs.Changes.{Change, change_of}
+use Rattle.settled_records.proofs.Told.{head_is, tail_is}
 
 -- ---- a path moves to one path
 one_target : (targets : Targets) (path : List ℤ) (n m : ℕ) (target other : List ℤ) → n ≡ m → targets (take n path) ≡ Some target → targets (take m path) ≡ Some other → target ≡ other

@@ -20,9 +20,9 @@ use Rattle.reflect_message.specs.Present.{held_if_set}
 use Rattle.reflect_message.specs.Singles.{single}
 use Rattle.reflect_options.specs.Settled.{truth_in, truth_said}
 use Rattle.message_view.proofs.Forms.{single_form_seen}
-use Rattle.settled_options.proofs.Written.{known_number}
-use Rattle.settled_options.proofs.Under.{Lacks, Writes, message_under, none_read, one_read}
-use Rattle.settled_options.proofs.Kept.{PlainAt}
+use Rattle.settled_records.proofs.Written.{known_number}
+use Rattle.settled_records.proofs.Under.{Lacks, Writes, message_under, none_read, one_read}
+use Rattle.settled_records.proofs.Kept.{PlainAt}
 
 -- what a truth value is written as, and nothing else
 abbrev truths : Single → List Payload

@@ -1,5 +1,0 @@
-use Rattle.settled_alike.proofs.Walk.{same_entities}
-use Rattle.settled_alike.proofs.laws.records_of_one_content_have_the_same_entities.Goals as goal
-
-pub returns : goal.returns
-returns c = same_entities

@@ -1,4 +1,0 @@
-//! What settled options say, in the words of their bytes. Nothing here does anything.
-#![tactic(auto)]
-
-pub mod laws;
