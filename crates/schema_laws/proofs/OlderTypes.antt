@@ -17,7 +17,7 @@ use Rattle.types_view.specs.Typed.{IsTyped}
 use Rattle.types_view.proofs.Settled.{settled_types}
 use Rattle.texts_view.specs.Named.{type_called}
 use Rattle.texts_view.proofs.Settled.{settled_names}
-use Rattle.option_orders.proofs.FurtherBatches.{called_declared, grows_further}
+use Rattle.stored_options.proofs.FurtherBatches.{called_declared, grows_further}
 use Rattle.schema_core.specs.Refusals.{IsKnown}
 use Rattle.schema_laws.proofs.LaterTexts.{called}
 use Rattle.schema_laws.proofs.TextsAlike.{no_message}

@@ -9,9 +9,9 @@ use Rattle.descriptor_records.specs.Content.{FileContent, Text, file_view, optio
 use Rattle.descriptor_records.specs.declared.file.FileDescriptorProto.{FileDescriptorProto}
 use Rattle.descriptor_records.specs.declared.options.Options.{Options}
 use Rattle.linked_view.proofs.Places.{get_less}
-use Rattle.option_orders.proofs.Alike.{given_alike}
-use Rattle.option_orders.proofs.Leads.{lead_alike}
-use Rattle.option_orders.specs.Standing.{HaveOneEnd, StandsIn}
+use Rattle.stored_options.proofs.InOrders.{given_alike}
+use Rattle.stored_options.proofs.Leads.{lead_alike}
+use Rattle.stored_options.specs.Standing.{HaveOneEnd, StandsIn}
 use Rattle.option_parts.specs.OptionTypes.{type_name}
 use Rattle.option_parts.specs.declared.option_scope.OptionScope.{OptionScope}
 use Rattle.option_setter.specs.declared.option_setter.NameScope.{NameScope}

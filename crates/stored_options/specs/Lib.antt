@@ -1,2 +1,5 @@
 pub mod StoredOptions
 pub mod CopiedOptions
+pub mod SetOptions
+pub mod NamedNumbers
+pub mod Standing

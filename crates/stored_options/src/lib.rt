@@ -2,3 +2,7 @@
 #![tactic(auto)]
 
 pub mod laws;
+pub mod names;
+pub mod of_sources;
+pub mod orders;
+pub mod setting;

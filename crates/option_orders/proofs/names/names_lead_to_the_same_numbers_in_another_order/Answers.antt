@@ -1,5 +1,0 @@
-use Rattle.option_orders.proofs.Leads.{lead_alike}
-use Rattle.option_orders.proofs.names.names_lead_to_the_same_numbers_in_another_order.Goals as goal
-
-pub returns : goal.returns
-returns c = lead_alike

@@ -1,8 +1,0 @@
-use Rattle.option_orders.proofs.Leads.{lead_alike}
-use Rattle.option_orders.proofs.Alike.{given_alike}
-use Rattle.option_orders.proofs.orders.options_settle_alike_in_another_order.Goals as goal
-
-pub returns : goal.returns
-returns c = λ batches others p q s t file name scope o x settled other paths ways ends here there.
-    given_alike batches others p q s t file name scope o x settled other paths ways ends here there
-    (lead_alike batches others p q s t file name ends here there)

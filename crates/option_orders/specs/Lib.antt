@@ -1,3 +1,0 @@
-pub mod SetOptions
-pub mod NamedNumbers
-pub mod Standing

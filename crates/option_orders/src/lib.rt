@@ -1,9 +1,0 @@
-//! What options set in a message of options, in the words of the models of messages and texts, and
-//! laws of it: that the options of sources set it, and the same in whatever order files come. It
-//! has no code.
-#![tactic(auto)]
-
-pub mod names;
-pub mod of_sources;
-pub mod orders;
-pub mod setting;
