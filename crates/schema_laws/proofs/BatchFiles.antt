@@ -17,9 +17,9 @@ use Rattle.reflect_index.proofs.Among.{got_map}
 use Rattle.reflect_options.specs.Settling.{SettlesPool}
 use Rattle.reflect_pool.specs.Linked.{empty_pool}
 use Rattle.reflect_tables.specs.Types.{PoolType}
-use Rattle.settled_again.specs.HeldOptions.{HasType}
-use Rattle.settled_again.proofs.Held.{new_given}
-use Rattle.settled_again.proofs.Linked.{linked_names, linked_sound}
+use Rattle.schema_laws.specs.HeldOptions.{HasType}
+use Rattle.schema_laws.proofs.Held.{new_given}
+use Rattle.schema_laws.proofs.Linked.{linked_names, linked_sound}
 use Rattle.settled_view.specs.BuiltBut.{ChangesOptions}
 use Rattle.settled_view.proofs.Built.{itself}
 use Rattle.settled_view.proofs.Many.{as_many}

@@ -6,20 +6,20 @@ use Rattle.texts_view.specs.ReadOptions.{read_file}
 use Rattle.linked_names.proofs.Accepted.{accepted_apart}
 use Rattle.option_parts.specs.OptionTypes.{CanRead}
 use Rattle.option_parts.specs.declared.option_scope.OptionScope.{OptionScope}
-use Rattle.options_alike.proofs.Settled.{settled_reads}
+use Rattle.schema_laws.proofs.Settled.{settled_reads}
 use Rattle.plain_records.specs.PlainRecords.{ArePlainFiles}
 use Rattle.reflect_pool.specs.Linked.{empty_pool}
 use Rattle.reflect_tables.specs.Types.{PoolType}
-use Rattle.settled_again.specs.HeldOptions.{ReadsAlike}
-use Rattle.settled_again.proofs.Again.{none_linked}
-use Rattle.settled_again.proofs.Linked.{names_stay}
-use Rattle.settled_again.proofs.More.{files_copied, reads_more}
+use Rattle.schema_laws.specs.HeldOptions.{ReadsAlike}
+use Rattle.schema_laws.proofs.Again.{none_linked}
+use Rattle.schema_laws.proofs.Linked.{names_stay}
+use Rattle.schema_laws.proofs.More.{files_copied, reads_more}
 use Rattle.settled_view.specs.BuiltBut.{ChangesOptions}
 use Rattle.stored_options.specs.CopiedOptions.{ReadsItsBytes}
 use Rattle.text_view.specs.SourceNames.{HaveOwnNames}
-use Rattle.told_messages.specs.ToldMessages.{TellsMessages}
-use Rattle.told_messages.proofs.Accepted.{accepted_tell, empty_tells}
-use Rattle.told_messages.proofs.Stays.{settled_tells}
+use Rattle.schema_laws.specs.ToldMessages.{TellsMessages}
+use Rattle.schema_laws.proofs.Accepted.{accepted_tell, empty_tells}
+use Rattle.schema_laws.proofs.Stays.{settled_tells}
 use Rattle.types_view.specs.Typed.{IsTyped}
 use Rattle.types_view.proofs.Settled.{empty_typed}
 use Rattle.schema_core.specs.Refusals.{FilesLinked, IsPool, SourcesLinked}

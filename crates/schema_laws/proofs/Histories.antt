@@ -8,14 +8,14 @@ use Rattle.linked_records.proofs.Typed.{typed_given}
 use Rattle.option_parts.specs.OptionTypes.{CanRead, ReadsOptions}
 use Rattle.option_parts.specs.TypedOptions.{TypedFiles, typed_file}
 use Rattle.option_parts.specs.declared.option_scope.OptionScope.{OptionScope}
-use Rattle.options_alike.proofs.Settled.{settled_reads}
+use Rattle.schema_laws.proofs.Settled.{settled_reads}
 use Rattle.protox_laws.proofs.Sources.{same_record}
 use Rattle.reflect_build.specs.Refusals.{IsOf, Linking, new_files}
 use Rattle.reflect_build.proofs.Parted.{one_new}
 use Rattle.reflect_pool.specs.Linked.{empty_pool}
 use Rattle.reflect_tables.specs.Types.{PoolType}
-use Rattle.settled_again.specs.HeldOptions.{HasType}
-use Rattle.settled_again.proofs.Grown.{type_stays}
+use Rattle.schema_laws.specs.HeldOptions.{HasType}
+use Rattle.schema_laws.proofs.HeldStill.{type_stays}
 use Rattle.types_view.specs.Typed.{IsTyped}
 use Rattle.types_view.proofs.Pools.{empty_sound}
 use Rattle.schema_core.specs.Refusals.{AreFilesOf, IsPool, SourcesLinked}

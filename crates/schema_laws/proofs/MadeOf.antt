@@ -1,8 +1,8 @@
 -- Schemas that sources alone made hold their options.
 use Rattle.std.proofs.Common.{List, [], ◌∷◌, map, sym, subst}
 use Rattle.linked_records.proofs.Typed.{typed_given}
-use Rattle.settled_again.specs.HeldOptions.{HoldsOptions}
-use Rattle.settled_again.proofs.Batch.{holds_more}
+use Rattle.schema_laws.specs.HeldOptions.{HoldsOptions}
+use Rattle.schema_laws.proofs.Batch.{holds_more}
 use Rattle.schema_core.specs.Refusals.{SourcesLinked}
 use Rattle.schema_core.specs.declared.schema.Schema.{Schema}
 use Rattle.schema_laws.proofs.Grown.{HasGrown, grown, made_grown, sources_more}

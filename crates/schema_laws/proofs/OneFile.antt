@@ -30,7 +30,7 @@ use Rattle.reflect_tables.specs.Types.{FileType, MessageType, PoolType, no_type}
 use Rattle.reflect_tables.specs.Views.{record_file}
 use Rattle.schema_view.specs.Lawful.{Builds, SameFiles, sources}
 use Rattle.schema_view.specs.Plain.{IsPlainFile as HasPlainName}
-use Rattle.settled_again.specs.HeldOptions.{HasType}
+use Rattle.schema_laws.specs.HeldOptions.{HasType}
 use Rattle.settled_records.specs.Alike.{AllSettleAlike, IsSameEntity, SettleAlike}
 use Rattle.settled_records.proofs.Pools.{settle_alike}
 use Rattle.settled_records.proofs.Walk.{same_entities}

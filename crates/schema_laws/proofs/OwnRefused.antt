@@ -13,7 +13,7 @@ use Rattle.option_parts.specs.Places.{option_place}
 use Rattle.option_parts.specs.TypedOptions.{TypedFiles}
 use Rattle.option_parts.specs.declared.option_error.OptionErrorKind.{OptionErrorKind}
 use Rattle.option_parts.specs.declared.option_scope.OptionScope.{OptionScope}
-use Rattle.options_alike.proofs.Alike.{read_alike, unread}
+use Rattle.schema_laws.proofs.Alike.{read_alike, unread}
 use Rattle.plain_records.specs.PlainRecords.{ArePlainFiles}
 use Rattle.plain_records.specs.SaidOptions.{IsSettled, SaysAndIsSettled}
 use Rattle.plain_records.proofs.Both.{files_weaker}
@@ -30,15 +30,15 @@ use Rattle.reflect_wire.specs.Written.{AreBytes}
 use Rattle.reflect_wire.specs.declared.wire_error.WireError.{WireError}
 use Rattle.reflect_wire.specs.declared.wire_error.WireError.TheVariants as wire
 use Rattle.schema_view.specs.Lawful.{IsLawful}
-use Rattle.settled_again.specs.HeldOptions.{HoldsOptions}
-use Rattle.settled_again.proofs.Again.{all_new, linked_same, names_again}
-use Rattle.settled_again.proofs.Taken.{not_refused}
-use Rattle.settled_again.proofs.TypedAgain.{typed_again}
+use Rattle.schema_laws.specs.HeldOptions.{HoldsOptions}
+use Rattle.schema_laws.proofs.Again.{all_new, linked_same, names_again}
+use Rattle.schema_laws.proofs.Taken.{not_refused}
+use Rattle.schema_laws.proofs.TypedAgain.{typed_again}
 use Rattle.settled_view.proofs.Built.{itself}
 use Rattle.text_view.specs.Schemas.{schema_of}
-use Rattle.told_messages.specs.ToldMessages.{TellsMessages}
-use Rattle.told_messages.proofs.Accepted.{accepted_tell, empty_tells}
-use Rattle.told_messages.proofs.Numbers.{keep_alike}
+use Rattle.schema_laws.specs.ToldMessages.{TellsMessages}
+use Rattle.schema_laws.proofs.Accepted.{accepted_tell, empty_tells}
+use Rattle.schema_laws.proofs.Numbers.{keep_alike}
 use Rattle.types_view.specs.Pools.{IsBuiltBut}
 use Rattle.types_view.proofs.Settled.{IsTypedMore, empty_typed, typed_more}
 use Rattle.schema_core.specs.Refusals.{IsNoSet, IsPool, SetRefused}

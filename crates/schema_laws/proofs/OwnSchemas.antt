@@ -12,8 +12,8 @@ use Rattle.protobuf_model.specs.Values.{Message}
 use Rattle.reflect_bytes.specs.Written.{pool_bytes}
 use Rattle.reflect_pool.specs.Linked.{empty_pool}
 use Rattle.reflect_wire.specs.Written.{AreBytes}
-use Rattle.settled_again.specs.HeldOptions.{HoldsOptions}
-use Rattle.settled_again.proofs.Again.{names_again, records_again, types_again}
+use Rattle.schema_laws.specs.HeldOptions.{HoldsOptions}
+use Rattle.schema_laws.proofs.Again.{names_again, records_again, types_again}
 use Rattle.text_view.specs.Schemas.{schema_of}
 use Rattle.schema_core.specs.Refusals.{SetLinked}
 use Rattle.schema_core.specs.declared.schema.Schema.{Schema}

@@ -17,7 +17,7 @@ use Rattle.plain_records.specs.SaidOptions.{SaysAndIsSettled, SaysItsBytes, Says
 use Rattle.plain_records.proofs.Both.{files_weaker}
 use Rattle.plain_records.proofs.Contents.{file_to}
 use Rattle.message_view.specs.Sound.{IsSound}
-use Rattle.settled_again.proofs.Linked.{linked_sound}
+use Rattle.schema_laws.proofs.Linked.{linked_sound}
 use Rattle.linked_records.proofs.Accepted.{linked_plain}
 use Rattle.linked_records.proofs.Typed.{typed_plain}
 use Rattle.settled_records.proofs.Left.{pool_done}

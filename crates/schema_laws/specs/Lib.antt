@@ -4,3 +4,5 @@ pub mod Reprints
 pub mod Histories
 pub mod Batches
 pub mod Detours
+pub mod HeldOptions
+pub mod ToldMessages

@@ -15,7 +15,7 @@ ghost use Rattle.reflect_pool.specs.Linked.{empty_pool};
 ghost use Rattle.reflect_wire.specs.Written.{AreBytes};
 ghost use Rattle.reflect_wire.specs.declared.wire_error.WireError.{WireError};
 ghost use Rattle.text_error.specs.declared.error.ParseErrorKind.{ParseErrorKind};
-ghost use Rattle.settled_again.specs.HeldOptions.{HoldsOptions};
+ghost use Rattle.schema_laws.specs.HeldOptions.{HoldsOptions};
 ghost use Rattle.text_view.specs.Schemas.{schema_of};
 ghost use Rattle.schema_core.specs.Payloads.{Decoded, Encoded, Recoded};
 ghost use Rattle.schema_core.specs.Refusals.{IsNoMessage, IsNoText, SetRefused, SourcesLinked};

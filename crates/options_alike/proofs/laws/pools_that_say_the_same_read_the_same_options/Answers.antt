@@ -1,5 +1,0 @@
-use Rattle.options_alike.proofs.Alike.{read_alike, unread}
-use Rattle.options_alike.proofs.laws.pools_that_say_the_same_read_the_same_options.Goals as goal
-
-pub returns : goal.returns
-returns c p q sound also alike keep scope can = read_alike p q sound also (alike unread) keep scope can
