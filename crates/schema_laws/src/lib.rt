@@ -1,4 +1,5 @@
-//! Laws of what a schema encodes, decodes and recodes, in the words of the model. It has no code.
+//! Laws of what a schema encodes, decodes and recodes, in the words of the model, and of its records,
+//! which link and settle to themselves. It has no code.
 #![tactic(auto)]
 
 pub mod batches;

@@ -1,4 +1,5 @@
-//! Laws of the records of pools whose options were settled. It has no code.
+//! Laws of the records of pools whose options were settled: what these say, in the words of their
+//! bytes, and the same records where options settle alike in two pools. It has no code.
 #![tactic(auto)]
 
 pub mod alike_files;

@@ -1,4 +1,6 @@
-//! Laws of the bytes that options of sources are stored in. It has no code.
+//! Laws of the bytes that options of sources are stored in, and of what options set in a message of
+//! options, in the words of the models of messages and texts: that the options of sources set it,
+//! and the same in whatever order files come. It has no code.
 #![tactic(auto)]
 
 pub mod laws;
