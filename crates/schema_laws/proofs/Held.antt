@@ -4,7 +4,7 @@ use Rattle.reflect_wire.specs.Written.{AreBytes}
 use Rattle.option_parts.specs.OptionTypes.{CanRead}
 use Rattle.descriptor_records.specs.Content.{OptionsContent, file_view}
 use Rattle.descriptor_records.specs.declared.file.FileDescriptorProto.{FileDescriptorProto}
-use Rattle.linked_records.proofs.Accepted.{fresh_plain}
+use Rattle.settled_records.proofs.Accepted.{fresh_plain}
 use Rattle.message_view.specs.Sound.{IsSound}
 use Rattle.message_view.specs.Types.{types_of}
 use Rattle.option_parts.specs.declared.option_scope.OptionScope.{OptionScope}

@@ -4,7 +4,7 @@ use Rattle.std.specs.List.{filter}
 use Rattle.descriptor_records.specs.Content.{FileContent, file_view}
 use Rattle.descriptor_records.specs.declared.file.FileDescriptorProto.{FileDescriptorProto}
 use Rattle.linked_names.specs.SourcePools.{IsSourcePool}
-use Rattle.linked_records.proofs.Typed.{typed_given}
+use Rattle.settled_records.proofs.Typed.{typed_given}
 use Rattle.option_parts.specs.OptionTypes.{CanRead, ReadsOptions}
 use Rattle.option_parts.specs.TypedOptions.{TypedFiles, typed_file}
 use Rattle.option_parts.specs.declared.option_scope.OptionScope.{OptionScope}

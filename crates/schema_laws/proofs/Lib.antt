@@ -49,3 +49,5 @@ pub mod AlongPaths
 pub mod Stays
 pub mod Accepted
 pub mod Numbers
+pub mod Pieces
+pub mod Stored

@@ -1,6 +1,6 @@
 -- Schemas that sources alone made hold their options.
 use Rattle.std.proofs.Common.{List, [], ◌∷◌, map, sym, subst}
-use Rattle.linked_records.proofs.Typed.{typed_given}
+use Rattle.settled_records.proofs.Typed.{typed_given}
 use Rattle.schema_laws.specs.HeldOptions.{HoldsOptions}
 use Rattle.schema_laws.proofs.Batch.{holds_more}
 use Rattle.schema_core.specs.Refusals.{SourcesLinked}

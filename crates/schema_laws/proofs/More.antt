@@ -3,7 +3,7 @@
 use Rattle.std.proofs.Common.{List, ◌∷◌, map, length, refl, ◌∙◌}
 use Rattle.descriptor_records.specs.Content.{FileContent, OptionsContent, file_view}
 use Rattle.descriptor_records.specs.declared.file.FileDescriptorProto.{FileDescriptorProto}
-use Rattle.linked_records.proofs.Typed.{copied, typed_says}
+use Rattle.settled_records.proofs.Typed.{copied, typed_says}
 use Rattle.message_view.specs.Sound.{IsSound}
 use Rattle.option_parts.specs.TypedOptions.{TypedFiles}
 use Rattle.option_parts.specs.declared.option_scope.OptionScope.{OptionScope}

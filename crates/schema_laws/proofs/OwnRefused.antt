@@ -6,8 +6,8 @@ use Rattle.texts_view.specs.ReadOptions.{read_file}
 use Rattle.texts_view.proofs.Alike.{stand_again}
 use Rattle.linked_view.proofs.Together.{empty_built}
 use Rattle.message_view.specs.Sound.{IsSound}
-use Rattle.option_bytes.specs.StoredBytes.{StoresBytes}
-use Rattle.option_bytes.proofs.Stored.{files_stored}
+use Rattle.schema_laws.specs.StoredBytes.{StoresBytes}
+use Rattle.schema_laws.proofs.Stored.{files_stored}
 use Rattle.option_parts.specs.OptionTypes.{CanRead}
 use Rattle.option_parts.specs.Places.{option_place}
 use Rattle.option_parts.specs.TypedOptions.{TypedFiles}

@@ -3,8 +3,8 @@
 use Rattle.std.proofs.Common.{◌≡◌, ℕ, List, map, Option}
 use Rattle.descriptor_records.specs.Content.{file_view}
 use Rattle.message_view.specs.Types.{types_of}
-use Rattle.option_bytes.specs.StoredBytes.{StoresBytes}
-use Rattle.option_bytes.proofs.Stored.{files_stored}
+use Rattle.schema_laws.specs.StoredBytes.{StoresBytes}
+use Rattle.schema_laws.proofs.Stored.{files_stored}
 use Rattle.plain_records.specs.PlainRecords.{ArePlainFiles}
 use Rattle.plain_records.specs.SaidOptions.{SaysAndIsSettled}
 use Rattle.protobuf_model.specs.Types.{Name}

@@ -18,8 +18,8 @@ use Rattle.plain_records.proofs.Both.{files_weaker}
 use Rattle.plain_records.proofs.Contents.{file_to}
 use Rattle.message_view.specs.Sound.{IsSound}
 use Rattle.schema_laws.proofs.Linked.{linked_sound}
-use Rattle.linked_records.proofs.Accepted.{linked_plain}
-use Rattle.linked_records.proofs.Typed.{typed_plain}
+use Rattle.settled_records.proofs.Accepted.{linked_plain}
+use Rattle.settled_records.proofs.Typed.{typed_plain}
 use Rattle.settled_records.proofs.Left.{pool_done}
 use Rattle.settled_view.proofs.Many.{as_many, linked_many}
 use Rattle.schema_core.specs.Refusals.{FilesLinked, SetLinked, SourcesLinked}

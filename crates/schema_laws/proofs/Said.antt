@@ -8,7 +8,7 @@ use Rattle.descriptor_records.specs.declared.file.FileDescriptorProto.{FileDescr
 use Rattle.option_parts.specs.OptionTypes.{type_name}
 use Rattle.option_parts.specs.declared.option_scope.OptionScope.{OptionScope}
 use Rattle.option_setter.specs.declared.option_setter.NameScope.{NameScope}
-use Rattle.linked_records.proofs.Accepted.{fresh_plain}
+use Rattle.settled_records.proofs.Accepted.{fresh_plain}
 use Rattle.plain_records.specs.PlainRecords.{ArePlainFiles, IsPlainFile}
 use Rattle.reflect_build.specs.Accepted.{FaultlessFiles}
 use Rattle.reflect_options.specs.Entities.{file_entities}

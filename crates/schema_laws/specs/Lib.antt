@@ -6,3 +6,4 @@ pub mod Batches
 pub mod Detours
 pub mod HeldOptions
 pub mod ToldMessages
+pub mod StoredBytes

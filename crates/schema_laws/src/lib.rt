@@ -8,6 +8,7 @@ pub mod growth;
 pub mod laws;
 pub mod names;
 pub mod older;
+pub mod option_bytes;
 pub mod option_types;
 pub mod orders;
 pub mod own_records;

@@ -25,3 +25,6 @@ pub mod Changes
 pub mod Moved
 pub mod Placed
 pub mod Pools
+pub mod Typed
+pub mod Linked
+pub mod Accepted

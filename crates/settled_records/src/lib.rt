@@ -1,7 +1,9 @@
-//! Laws of the records of pools whose options were settled: what these say, in the words of their
-//! bytes, and the same records where options settle alike in two pools. It has no code.
+//! Laws of the records of pools: bytes can say them where bytes can say those of the files that were
+//! linked, and of settled options what they say; and where options settle alike in two pools, they
+//! are the same. It has no code.
 #![tactic(auto)]
 
 pub mod alike_files;
 pub mod laws;
+pub mod linking;
 pub mod said_bytes;

@@ -3,7 +3,7 @@
 ghost use Rattle.std.specs.Prelude.{ℕ, List, map};
 ghost use Rattle.descriptor_records.specs.Content.{file_view};
 ghost use Rattle.descriptor_records.specs.declared.file.FileDescriptorProto.{FileDescriptorProto};
-ghost use Rattle.option_bytes.specs.StoredBytes.{SaysNothing, StoresBytes};
+ghost use Rattle.schema_laws.specs.StoredBytes.{SaysNothing, StoresBytes};
 ghost use Rattle.plain_records.specs.PlainRecords.{ArePlainFiles, IsPlainFile};
 ghost use Rattle.reflect_codec.specs.Fields.{records_field};
 ghost use Rattle.reflect_codec.specs.Written.{file_bytes};

@@ -10,7 +10,7 @@ use Rattle.option_parts.specs.declared.option_scope.OptionScope.{OptionScope}
 use Rattle.reflect_index.specs.Rewriting.{written}
 use Rattle.reflect_pool.proofs.Grown.{all_behind}
 use Rattle.reflect_tables.specs.Types.{PoolType}
-use Rattle.linked_records.proofs.Linked.{written_plain}
+use Rattle.settled_records.proofs.Linked.{written_plain}
 
 -- what holds of the views of items holds of those of the ones that pass a test
 all_kept : {A B : Type 0} (P : B → Type 0) (view : A → B) (test : A → Bool) (xs : List A)

@@ -23,9 +23,9 @@ use Rattle.reflect_wire.specs.Written.{AreBytes}
 use Rattle.option_parts.specs.declared.option_scope.OptionScope.{OptionScope}
 use Rattle.option_parts.specs.declared.option_scope.OptionScope.TheVariants as scopes
 use Rattle.plain_records.specs.PlainRecords.{ArePlainFiles, ArePlainMessages, ArePlainOptions, HasPlainParts, IsPlainEnum, IsPlainEnumValue, IsPlainExtensionRange, IsPlainField, IsPlainFile, IsPlainMessage, IsPlainMethod, IsPlainOneof, IsPlainService}
-use Rattle.option_bytes.specs.StoredBytes.{StoresBytes}
+use Rattle.schema_laws.specs.StoredBytes.{StoresBytes}
 use Rattle.message_view.proofs.Plain.{back_bytes, front_bytes}
-use Rattle.option_bytes.proofs.Pieces.{each_stored, enum_pieces, enum_value_pieces, extension_range_pieces, field_pieces, file_pieces, message_pieces, method_pieces, oneof_pieces, payload_held, piece_held, service_pieces}
+use Rattle.schema_laws.proofs.Pieces.{each_stored, enum_pieces, enum_value_pieces, extension_range_pieces, field_pieces, file_pieces, message_pieces, method_pieces, oneof_pieces, payload_held, piece_held, service_pieces}
 
 one_less : (n : ℕ) → suc n - 1 ≡ n
 one_less n = omega arith

@@ -1,3 +1,0 @@
-pub mod Typed
-pub mod Linked
-pub mod Accepted
