@@ -100,8 +100,8 @@ impl Comments {
         self.is_open = false;
     }
 
-    /// Drops all comments.
-    fn reset(&mut self)
+    /// Drops all comments, and with them both marks. Takes no memory.
+    pub fn reset(&mut self)
         ensures texts { (blocks self.new).texts ≡ [] }
         ensures open { (blocks self.new).is_open ≡ false }
         ensures parted { (blocks self.new).is_parted ≡ false }

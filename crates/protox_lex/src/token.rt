@@ -176,3 +176,33 @@ pub const RESERVED: Token<'static> = Token::Ident("reserved");
 pub const TO: Token<'static> = Token::Ident("to");
 
 pub const MAX: Token<'static> = Token::Ident("max");
+
+pub const DOUBLE: Token<'static> = Token::Ident("double");
+
+pub const FLOAT: Token<'static> = Token::Ident("float");
+
+pub const INT32: Token<'static> = Token::Ident("int32");
+
+pub const INT64: Token<'static> = Token::Ident("int64");
+
+pub const UINT32: Token<'static> = Token::Ident("uint32");
+
+pub const UINT64: Token<'static> = Token::Ident("uint64");
+
+pub const SINT32: Token<'static> = Token::Ident("sint32");
+
+pub const SINT64: Token<'static> = Token::Ident("sint64");
+
+pub const FIXED32: Token<'static> = Token::Ident("fixed32");
+
+pub const FIXED64: Token<'static> = Token::Ident("fixed64");
+
+pub const SFIXED32: Token<'static> = Token::Ident("sfixed32");
+
+pub const SFIXED64: Token<'static> = Token::Ident("sfixed64");
+
+pub const BOOL: Token<'static> = Token::Ident("bool");
+
+pub const STRING: Token<'static> = Token::Ident("string");
+
+pub const BYTES: Token<'static> = Token::Ident("bytes");

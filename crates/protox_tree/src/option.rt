@@ -129,7 +129,7 @@ impl OptionBody {
     }
 
     /// From the first part of the name to the last.
-    fn name_span(&self) -> Span
+    pub fn name_span(&self) -> Span
         ensures { result ≡ places.name_span (body_view self.now).name }
     {
         across(self.name[0].span(), self.name[self.name.len() - 1].span())
