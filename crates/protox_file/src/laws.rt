@@ -5,14 +5,16 @@
 
 ghost use Rattle.protox_file.specs.FileGrammar.{file};
 ghost use Rattle.protox_file.specs.OlderGrammar.{SpellsOlder};
-ghost use Rattle.protox_file.specs.Sources.{Spells, RefusedBy, IsDead};
+ghost use Rattle.protox_file.specs.Sources.{IsDead, RefusedBy, Spells};
 ghost use Rattle.protox_lex.specs.Class.{Text};
 ghost use Rattle.protox_lex.specs.Token.{Token};
+ghost use Rattle.protox_lex.specs.declared.error.LexError.{LexError};
+ghost use Rattle.protox_lex.specs.declared.error.LexErrorKind.TheVariants as kinds;
 ghost use Rattle.protox_lex.specs.declared.span.Span as spans;
-ghost use Rattle.protox_tokens.specs.Refusal.{Expected, Fault, unexpected};
-ghost use Rattle.protox_tokens.specs.Stream.{Stream};
+ghost use Rattle.protox_tokens.specs.Refusal.{Expected, Fault, lexical, unexpected};
+ghost use Rattle.protox_tokens.specs.Stream.{HasLexical, Stream};
 ghost use Rattle.protox_tree.specs.FileTree as tree;
-ghost use Rattle.std.specs.Prelude.{◌≡◌, Err};
+ghost use Rattle.std.specs.Prelude.{◌≡◌, ◌⊎◌, Err};
 
 /// A text spells one tree at most.
 pub fn one_tree()
@@ -34,6 +36,14 @@ pub fn spelled_is_not_refused()
 pub fn refused_tokens_begin_no_file()
     ensures { (ts : Stream) (x : Expected) (t : Token) (at : spans.Span) → file ts
         ≡ Err (unexpected x t at) → IsDead ts x t at }
+{}
+
+/// A fault of tokens for which a text is refused is one that the text has: it can be cut no further
+/// there, or a comment or a number stands there that only text format has. Or it is an integer of
+/// an option, of which a minus in front makes one below -2^63.
+pub fn told_lexical_faults_are_there()
+    ensures { (z : Text) (e : LexError) → RefusedBy z (lexical e)
+        → HasLexical z e ⊎ (e.kind ≡ kinds.IntegerOutOfRange) }
 {}
 
 /// What spelled a tree while options stood only behind a last extension range with an end spells

@@ -11,7 +11,7 @@ use Rattle.protox_tokens.specs.Refusal.{an_option_value, a_number}
 use Rattle.protox_tokens.specs.Span.{across}
 use Rattle.protox_tokens.specs.Stream.{source}
 use Rattle.protox_tree.specs.Tree.{Value, word_value, minus_word, int_value, float_value, strings_value, braces_value}
-use Rattle.std.proofs.Common.{Option, Some, None}
+use Rattle.std.proofs.Common.{Option, Some, None, refl}
 use Rattle.protox_lex.specs.declared.token.Sign.TheVariants as s
 
 Local-in_parens : (p : Span) → Local (in_parens p)
@@ -42,7 +42,7 @@ unfolding name
 Moves-name = Moves-some_by _ Local-name_part Moves-name_part
 
 Local-in_range : (v : Value) → Local (in_range v)
-Local-in_range (int_value n) = Local-if _ (Local-pure _) (Local-lexical _)
+Local-in_range (int_value n) = Local-if _ (Local-pure _) (Local-lexical _ refl)
 Local-in_range (word_value w) = Local-pure _
 Local-in_range (minus_word w) = Local-pure _
 Local-in_range (float_value n w) = Local-pure _

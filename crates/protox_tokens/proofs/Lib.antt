@@ -1,5 +1,6 @@
 pub mod Both
 mod Left
+pub mod Lexical
 pub mod Lists
 pub mod Local
 pub mod Loops

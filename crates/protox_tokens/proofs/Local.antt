@@ -1,9 +1,10 @@
 -- What a parser answers depends on nothing behind the first token that it doesn't take.
-use Rattle.std.proofs.Common.{◌≡◌, ℕ, zero, suc, ◌≤◌, ◌<◌, Bool, true, false, not, List, [], ◌∷◌, ◌++◌, length, Option, Some, None, Ok, Err, refl, ap, sym, subst, ◌∙◌, arith, append_assoc}
+use Rattle.std.proofs.Common.{◌≡◌, ◌⊎◌, inl, inr, ℕ, zero, suc, ◌≤◌, ◌<◌, Bool, true, false, not, List, [], ◌∷◌, ◌++◌, length, Option, Some, None, Ok, Err, refl, ap, sym, subst, ◌∙◌, arith, append_assoc}
 use Rattle.std.specs.Prelude.{if◌then◌else◌}
 use Rattle.std.proofs.lemmas.List.{length-append}
 use Rattle.protox_lex.specs.Token.{Token}
 use Rattle.protox_lex.specs.declared.error.LexError.{LexError}
+use Rattle.protox_lex.specs.declared.error.LexErrorKind.TheVariants as kinds
 use Rattle.protox_lex.specs.declared.span.Span.{Span}
 use Rattle.protox_tokens.specs.Stream.{Piece, piece, last, Mode, source, text, Stream, look}
 use Rattle.protox_tokens.specs.Refusal.{Expected, Fault, unexpected, eof, lexical, unknown_syntax, too_deep, refusal, this, an_ident, an_int, a_string}
@@ -24,21 +25,23 @@ same_head-append : (front r s : Stream) → SameHead r s → SameHead (front ++ 
 same_head-append [] r s h = h
 same_head-append (x ∷ front) r s h = refl
 
--- A token that was not expected, or the end, is what is ahead.
+-- What is told is what is ahead.
 abbrev pub IsAhead : Fault → Stream → Type 0
 IsAhead f r = (m : Mode) × (e : Expected) × (refusal m e r ≡ f)
 
+-- A token that was not expected, the end, or what is no token there is ahead. An integer that is out
+-- of range may stand before that.
 abbrev pub IsAt : Fault → Stream → Type 0
 IsAt (unexpected e t s) r = IsAhead (unexpected e t s) r
 IsAt (eof e) r = IsAhead (eof e) r
-IsAt (lexical e) r = Unit {0}
+IsAt (lexical e) r = IsAhead (lexical e) r ⊎ (e.kind ≡ kinds.IntegerOutOfRange)
 IsAt (unknown_syntax s) r = Unit {0}
 IsAt (too_deep s) r = Unit {0}
 
 is_at_by : (m : Mode) (e : Expected) (r : Stream) (f : Fault) → refusal m e r ≡ f → IsAt f r
 is_at_by m e r (unexpected x t s) h = (m, e, h)
 is_at_by m e r (eof x) h = (m, e, h)
-is_at_by m e r (lexical x) h = tt
+is_at_by m e r (lexical x) h = inl (m, e, h)
 is_at_by m e r (unknown_syntax s) h = tt
 is_at_by m e r (too_deep s) h = tt
 
@@ -408,8 +411,8 @@ Moves-refused m e = record { at = λ ts r a h. absurd cc }
 abbrev pub lexical_at : {A : Type 0} → LexError → Parser A
 lexical_at e ts = Err (lexical e)
 
-pub Local-lexical : {A : Type 0} (e : LexError) → Local (lexical_at {A = A} e)
-Local-lexical e = record { at = λ ts. (ts, tt, record { front = []; whole = refl; stable = λ s h. refl }) }
+pub Local-lexical : {A : Type 0} (e : LexError) → e.kind ≡ kinds.IntegerOutOfRange → Local (lexical_at {A = A} e)
+Local-lexical e out = record { at = λ ts. (ts, inr out, record { front = []; whole = refl; stable = λ s h. refl }) }
 
 pub Local-too_deep : {A : Type 0} (p : Span) → Local {A = A} (λ ts. Err (too_deep p))
 Local-too_deep p = record { at = λ ts. (ts, tt, record { front = []; whole = refl; stable = λ s h. refl }) }

@@ -9,7 +9,8 @@ use Rattle.protox_lex.specs.declared.error.LexErrorKind.{LexErrorKind}
 use Rattle.protox_lex.specs.declared.span.Span.{Span}
 use Rattle.protox_tokens.specs.declared.tokens.Tokens.{Tokens}
 use Rattle.std.specs.Option.{option_or}
-use Rattle.std.specs.Prelude.{◌≡◌, Bool, true, false, List, [], ◌∷◌, Option, Some, None, Result, Ok, Err}
+use Rattle.std.specs.List.{Contains}
+use Rattle.std.specs.Prelude.{◌≡◌, ◌⊎◌, Bool, true, false, List, [], ◌∷◌, Option, Some, None, Result, Ok, Err}
 use Rattle.protox_lex.specs.Shown as lexer
 use Rattle.protox_lex.specs.declared.lexer.Lexeme as code
 
@@ -63,6 +64,15 @@ comment_of (Err e) = None
 -- before it
 abbrev pub IsRead : Text → Stream → Type 0
 IsRead z s = (ts : List Lexeme) × Lexes 0 z ts × (s ≡ gather None ts)
+
+-- The text has this fault: it can be cut no further there, or a token that only text format has
+-- stands there.
+abbrev pub HasLexical : Text → LexError → Type 0
+HasLexical z e =
+    (ts : List Lexeme) × Lexes 0 z ts
+    × (Contains ts (fault_at e.kind e.span.start e.span.end)
+    ⊎ ((t : Token) × Contains ts (token_at e.span.start e.span.end t)
+    × (format_fault t ≡ Some e.kind)))
 
 abbrev pub stream : Tokens → Stream
 stream t = from_ahead t.hash t.ahead (gather None (lexer.stream t.lexer))
