@@ -11,4 +11,6 @@ pub mod Orders
 pub mod Sources
 pub mod WorkedSources
 pub mod Sizes
+pub mod WorkedFaults
 pub mod WorkedGaps
+pub mod WorkedPlaces

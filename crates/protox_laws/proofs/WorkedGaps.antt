@@ -9,7 +9,7 @@ use Rattle.std.specs.List.{AllByRecursion}
 use Rattle.std.specs.Prelude.{◌&&◌, codes, slice_index}
 use Rattle.std.specs.Str.Lossy.{utf8_lossy}
 
-abbrev are_ascii : Text → Bool
+abbrev pub are_ascii : Text → Bool
 are_ascii [] = true
 are_ascii (b ∷ t) = nat_lt b 128 && are_ascii t
 
@@ -19,19 +19,19 @@ below [] (suc i) e = omega arith
 below (b ∷ t) zero e = ltb-true _ _ ((and_parts (nat_lt b 128) (are_ascii t) e).0)
 below (b ∷ t) (suc i) e = below t i ((and_parts (nat_lt b 128) (are_ascii t) e).1)
 
-abbrev IsText : Text → Type 0
+abbrev pub IsText : Text → Type 0
 IsText t = are_ascii t ≡ true
 
 as_it_is : (t : Text) → IsText t → utf8_lossy t ≡ t
 as_it_is t u = utf8_lossy-IsUtf8 t (IsUtf8-from_ascii t (λ i. below t i u))
 
-one : (n : Notes) (f : Text → Notes) (t : Text) → n ≡ f (utf8_lossy t) → IsText t → n ≡ f t
+pub one : {X : Type 0} (n : X) (f : Text → X) (t : Text) → n ≡ f (utf8_lossy t) → IsText t → n ≡ f t
 one n f t e u = e ∙ ap f (as_it_is t u)
 
-two : (n : Notes) (f : Text → Text → Notes) (s t : Text) → n ≡ f (utf8_lossy s) (utf8_lossy t) → IsText s → IsText t → n ≡ f s t
+two : {X : Type 0} (n : X) (f : Text → Text → X) (s t : Text) → n ≡ f (utf8_lossy s) (utf8_lossy t) → IsText s → IsText t → n ≡ f s t
 two n f s t e u v = one n (f s) t (one n (λ x. f x (utf8_lossy t)) s e u) v
 
-three : (n : Notes) (f : Text → Text → Text → Notes) (r s t : Text) → n ≡ f (utf8_lossy r) (utf8_lossy s) (utf8_lossy t) → IsText r → IsText s → IsText t → n ≡ f r s t
+pub three : {X : Type 0} (n : X) (f : Text → Text → Text → X) (r s t : Text) → n ≡ f (utf8_lossy r) (utf8_lossy s) (utf8_lossy t) → IsText r → IsText s → IsText t → n ≡ f r s t
 three n f r s t e u v w = two n (f r) s t (one n (λ x. f x (utf8_lossy s) (utf8_lossy t)) r e u) v w
 
 abbrev trails : Text → Notes

@@ -29,24 +29,24 @@ use Rattle.std.specs.List.{AllByRecursion}
 use Rattle.std.specs.Str.{chars as chars_of, is_utf8 as is_utf8_of}
 
 -- the tokens of a text
-abbrev tokens_of : Text → Stream
+abbrev pub tokens_of : Text → Stream
 tokens_of z = gather None (lexemes z)
 
-spells : (z : Text) (tree : File) → file (tokens_of z) ≡ Ok (tree, []) → Spells z tree
+pub spells : (z : Text) (tree : File) → file (tokens_of z) ≡ Ok (tree, []) → Spells z tree
 spells z tree h = (tokens_of z, (lexemes z, all_longest z, refl), h)
 
 refuses : (z : Text) (f : Fault) → file (tokens_of z) ≡ Err f → RefusedBy z f
 refuses z f h = (tokens_of z, (lexemes z, all_longest z, refl), h)
 
 -- this is read to the end, as a tree that has these faults
-abbrev IsFaulty : Outcome File → List ParseErrorKind → Type 0
+abbrev pub IsFaulty : Outcome File → List ParseErrorKind → Type 0
 IsFaulty (Ok (tree, [])) (k ∷ ks) = k ∷ ks ≡ faults_of tree
 IsFaulty o faults = ⊥
 
 some : (k : ParseErrorKind) (ks : List ParseErrorKind) → 0 < length (k ∷ ks)
 some k ks = omega (arith)
 
-tells : (z : Text) (faults : List ParseErrorKind) (o : Outcome File) → file (tokens_of z) ≡ o → IsFaulty o faults → AreAtFault z faults
+pub tells : (z : Text) (faults : List ParseErrorKind) (o : Outcome File) → file (tokens_of z) ≡ o → IsFaulty o faults → AreAtFault z faults
 tells z (k ∷ ks) (Ok (tree, [])) h e = inr (tree, spells z tree h, (e, some k ks))
 tells z [] (Ok (tree, [])) h e = absurd e
 tells z faults (Ok (tree, t ∷ ts)) h e = absurd e

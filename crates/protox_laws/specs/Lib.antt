@@ -1,4 +1,7 @@
 pub mod SameFaults
 pub mod Sizes
+pub mod WorkedFaults
 pub mod WorkedGaps
+pub mod WorkedLocations
+pub mod WorkedPlaces
 pub mod WorkedSources

@@ -5,7 +5,9 @@
 //! These sources pin, apart from that, what they read.
 
 ghost use Rattle.protox_file.specs.Sources.{RefusedBy, Spells};
+ghost use Rattle.protox_laws.specs.WorkedFaults.{of_defaults, of_fields, of_numbers, of_other_fields};
 ghost use Rattle.protox_laws.specs.WorkedGaps.{gaps};
+ghost use Rattle.protox_laws.specs.WorkedPlaces.{HasPlaces, placed};
 ghost use Rattle.protox_laws.specs.WorkedSources.{at_fault, braces, in_option, messages, read, refused};
 ghost use Rattle.protox_locate.specs.Gap.{comments_in};
 ghost use Rattle.protox_parse.specs.Answers.{AreAtFault};
@@ -29,6 +31,21 @@ pub fn worked_sources_are_refused()
 /// Others spell trees that break a rule, and these are all their faults: one source for each rule.
 pub fn worked_sources_are_at_fault()
     ensures { AllByRecursion (λ e. AreAtFault e.0 e.1) at_fault }
+{}
+
+/// And others, with several faults and with what is just none on both sides of each bound, have
+/// these, in the order in which they stand.
+pub fn worked_sources_have_all_their_faults()
+    ensures numbers { AllByRecursion (λ e. AreAtFault e.0 e.1) of_numbers }
+    ensures fields { AllByRecursion (λ e. AreAtFault e.0 e.1) of_fields }
+    ensures defaults { AllByRecursion (λ e. AreAtFault e.0 e.1) of_defaults }
+    ensures others { AllByRecursion (λ e. AreAtFault e.0 e.1) of_other_fields }
+{}
+
+/// In worked sources each statement, and each part of one, stands there, at its path, and has these
+/// comments.
+pub fn worked_sources_have_their_places()
+    ensures { AllByRecursion (λ e. HasPlaces e.0 e.1) placed }
 {}
 
 /// Worked gaps between tokens have these comments: the one of the statement in front, those that
