@@ -16,7 +16,7 @@ use Rattle.reflect_names.specs.Faults.{Adds, place_at}
 use Rattle.reflect_scope.specs.Known.{known_of}
 use Rattle.reflect_names.specs.Names.{Places}
 use Rattle.reflect_names.specs.References.{View, targets_of, reference_faults_at}
-use Rattle.reflect_names.specs.ReferencePass.{AreSeen, views_of, targets_along, reference_faults_along}
+use Rattle.reflect_names.specs.ReferencePass.{AreSeen, SeeNoOthers, views_of, targets_along, reference_faults_along}
 use Rattle.reflect_names.specs.ReferenceSteps.{Refers, Finds, Looks, ResolvesFiles, Stays, view_of, target_of}
 use Rattle.reflect_names.specs.declared.resolve_visitor.ResolveVisitor.{ResolveVisitor}
 use Rattle.reflect_names.proofs.Added.{adds_none, same_places}
@@ -119,6 +119,7 @@ still s (d ∷ ds) t (m, (step, rest)) = let later = still m ds t rest in record
 record Resolved (s : ResolveVisitor) (o : Offsets) (file : ℕ) (f : FileDescriptorProto) (t : ResolveVisitor) : Type 0 where
   sees : ℕ → Bool
   right : (g : ℕ) → g < length s.links.now → (IsTrue (sees g) ↔ Sees s.links.now file g)
+  others : (g : ℕ) → length s.links.now ≤ g → sees g ≡ false
   finds : (views : ℕ → View) → views file ≡ record { known = known_of s.names.now; sees = sees } → Finds s t (targets_along views (file_declarations o file f)) (reference_faults_along (place_at s.faults) views (file_declarations o file f))
 
 resolved : (s : ResolveVisitor) (o : Offsets) (file : ℕ) (f : FileDescriptorProto) (t : ResolveVisitor) → Runs Refers s (file_declarations o file f) t → Resolved s o file f t
@@ -127,7 +128,8 @@ resolved s o file f t (m, (step, rest)) =
     let places : place_at m.faults ≡ place_at s.faults = fun_ext (same_places s.faults m.faults _ step.faults) in
     record {
       sees = tells m.seen;
-      right = step.looks;
+      right = step.looks.0;
+      others = step.looks.1;
       finds = λ views is.
           let later = subst (λ p. Finds m t (targets_along views (parts o file f)) (reference_faults_along p views (parts o file f))) places (ran views file m (parts o file f) t (are_parts o file f) (view ∙ sym is) rest) in
           finds_on s m t [] _ [] _ (record { references = step.references; faults = step.faults }) later;
@@ -194,12 +196,23 @@ all_seen links i n here later one others f g low high lt = by (nat_lt i f) refl 
       let same : i ≡ f = grind arith in
       subst (λ j. IsTrue (sees_with i here later j g) ↔ Sees links j g) same (subst (λ x. IsTrue (x g) ↔ Sees links i g) (sym (first_sees i here later)) (one g lt))
 
+no_others : (links : List Links) (i n : ℕ) (here : ℕ → Bool) (later : ℕ → ℕ → Bool) → ((g : ℕ) → length links ≤ g → here g ≡ false)
+    → SeeNoOthers links (i + 1) n later → SeeNoOthers links i (suc n) (sees_with i here later)
+no_others links i n here later one behind f g low high le = by (nat_lt i f) refl where
+  by : (b : Bool) → nat_lt i f ≡ b → sees_with i here later f g ≡ false
+  by true is =
+      let after : i + 1 ≤ f = grind arith in
+      ap (λ (x : ℕ → Bool). x g) (later_see i f here later after) ∙ behind f g after (omega arith) le
+  by false is =
+      let same : i ≡ f = grind arith in
+      subst (λ j. sees_with i here later j g ≡ false) same (ap (λ (x : ℕ → Bool). x g) (first_sees i here later) ∙ one g le)
+
 -- a walk over files finds what they refer to
 pub resolved_files : (s : ResolveVisitor) (o : Offsets) (i : ℕ) (fs : List FileDescriptorProto) (t : ResolveVisitor) → Runs Refers s (batch_declarations o i fs) t → ResolvesFiles s o i fs t
 resolved_files s o i [] t e = record {
   means = [];
   wrong = [];
-  right = record { sees = λ f g. false; right = λ f g low high lt. absurd (omega (arith, low, high)); targets = refl; faults = refl };
+  right = record { sees = λ f g. false; right = λ f g low high lt. absurd (omega (arith, low, high)); others = λ f g low high le. absurd (omega (arith, low, high)); targets = refl; faults = refl };
   finds = record {
     references = ap (λ x. map target_of x.references.items) e ∙ sym (append-nil _);
     faults = subst (λ x. Adds s.faults x []) (ap (λ x. x.faults) (sym e)) (adds_none s.faults);
@@ -231,6 +244,7 @@ resolved_files s o i (f ∷ fs) t run =
       right = record {
         sees = sees;
         right = all_seen s.links.now i (length fs) here.sees later.right.sees here.right (subst (λ l. AreSeen l (i + 1) (length fs) later.right.sees) stay.links later.right.right);
+        others = no_others s.links.now i (length fs) here.sees later.right.sees here.others (subst (λ l. SeeNoOthers l (i + 1) (length fs) later.right.sees) stay.links later.right.others);
         targets = ap (λ l. targets_along views one ++ l) targets ∙ sym (targets_append views one others);
         faults = ap (λ l. reference_faults_along (place_at s.faults) views one ++ l) faults ∙ sym (faults_append (place_at s.faults) views one others);
       };

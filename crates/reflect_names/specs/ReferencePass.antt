@@ -1,5 +1,5 @@
 -- The references and the faults of files.
-use Rattle.std.specs.Prelude.{◌≡◌, ◌<◌, ◌≤◌, ◌↔◌, ℕ, ◌+◌, List, [], ◌∷◌, ◌++◌, length, Bool, IsTrue}
+use Rattle.std.specs.Prelude.{◌≡◌, ◌<◌, ◌≤◌, ◌↔◌, ℕ, ◌+◌, List, [], ◌∷◌, ◌++◌, length, Bool, false, IsTrue}
 use Rattle.descriptor_records.specs.declared.file.FileDescriptorProto.{FileDescriptorProto}
 use Rattle.reflect_scope.specs.Sees.{Sees}
 use Rattle.reflect_scope.specs.declared.seen.Links.{Links}
@@ -20,6 +20,11 @@ abbrev pub AreSeen : List Links → ℕ → ℕ → (ℕ → ℕ → Bool) → T
 AreSeen links first count sees = (f g : ℕ) → first ≤ f → f < first + count → g < length links
     → (IsTrue (sees f g) ↔ Sees links f g)
 
+-- and no index at which there are no links
+abbrev pub SeeNoOthers : List Links → ℕ → ℕ → (ℕ → ℕ → Bool) → Type 0
+SeeNoOthers links first count sees = (f g : ℕ) → first ≤ f → f < first + count
+    → length links ≤ g → sees f g ≡ false
+
 -- what the references of declarations mean, by the view of each file
 abbrev pub targets_along : (ℕ → View) → List Declaration → List Target
 targets_along views [] = []
@@ -37,6 +42,7 @@ pub record BatchReferences (known : Known) (links : List Links) (at : ℕ → Pl
     (wrong : List Fault) : Type 0 where
   pub sees : ℕ → ℕ → Bool
   pub right : AreSeen links first (length files) sees
+  pub others : SeeNoOthers links first (length files) sees
   pub targets : means ≡ targets_along (views_of known sees) (batch_declarations before first files)
   pub faults : wrong ≡ reference_faults_along at (views_of known sees)
       (batch_declarations before first files)

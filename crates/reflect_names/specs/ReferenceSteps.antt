@@ -1,5 +1,5 @@
 -- What the visitor of references does at a declaration.
-use Rattle.std.specs.Prelude.{◌≡◌, ◌<◌, ◌↔◌, ℕ, List, ◌++◌, map, length, IsTrue, refl, string_bytes}
+use Rattle.std.specs.Prelude.{◌≡◌, ◌<◌, ◌≤◌, ◌↔◌, ℕ, false, List, ◌++◌, map, length, IsTrue, refl, string_bytes}
 use Rattle.std.proofs.Common.{◌∙◌}
 use Rattle.descriptor_records.specs.declared.file.FileDescriptorProto.{FileDescriptorProto}
 use Rattle.reflect_scope.specs.Seen.{tells}
@@ -19,11 +19,12 @@ target_of r = (string_bytes r.name, r.definition)
 abbrev pub view_of : ResolveVisitor → View
 view_of s = record { known = known_of s.names.now; sees = tells s.seen }
 
--- at a file: what it sees is seen from then on; elsewhere that stays
+-- at a file: what it sees is seen from then on, and no index of no file; elsewhere that stays
 abbrev pub Looks : ResolveVisitor → Declaration → ResolveVisitor → Type 0
 Looks s d t = elim d.body [
   | of_file f ↦ ((g : ℕ) → g < length s.links.now
       → (IsTrue (tells t.seen g) ↔ Sees s.links.now d.file g))
+      × ((g : ℕ) → length s.links.now ≤ g → tells t.seen g ≡ false)
   | _ ↦ tells t.seen ≡ tells s.seen
 ]
 

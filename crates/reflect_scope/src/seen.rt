@@ -134,14 +134,12 @@ fn clear_marks(marks: &mut Vec<bool>, order: &Vec<FileIndex>)
     }
 }
 
-/// Makes room for the marks of `count` files.
-fn grow(marks: &mut Vec<bool>, count: usize) -> Result<(), AllocError>
-    ensures room { OnOk result (count ≤ length marks.new.items) }
+/// Leaves the marks of exactly `count` files; those that are new have none.
+fn fit(marks: &mut Vec<bool>, count: usize) -> Result<(), AllocError>
+    ensures room { OnOk result (length marks.new.items ≡ count) }
     ensures clear { AllClear marks.old.items → AllClear marks.new.items }
 {
-    if marks.len() < count {
-        marks.resize(count, false)?;
-    }
+    marks.resize(count, false)?;
     Ok(())
 }
 
@@ -154,9 +152,10 @@ fn reach(
 ) -> Result<(), AllocError>
     requires clear { AllClear marks.old.items }
     requires none { order.old.items ≡ [] }
-    requires room { length files.now ≤ length marks.old.items }
+    requires room { length files.now ≡ length marks.old.items }
     ensures sees { OnOk result ((g : ℕ) → g < length files.now
         → (slice_index_or marks.new.items g false ≡ true ↔ Sees files.now file g)) }
+    ensures same { OnOk result (length marks.new.items ≡ length files.now) }
     ensures listed { AreListed marks.new.items order.new.items }
 {
     mark_imports(marks, order, files, file)?;
@@ -179,11 +178,13 @@ fn look(
     requires listed { AreListed marks.old.items order.old.items }
     ensures sees { OnOk result ((g : ℕ) → g < length files.now
         → (slice_index_or marks.new.items g false ≡ true ↔ Sees files.now file g)) }
+    ensures others { OnOk result ((g : ℕ) → length files.now ≤ g
+        → slice_index_or marks.new.items g false ≡ false) }
     ensures listed { AreListed marks.new.items order.new.items }
 {
     clear_marks(marks, order);
     order.clear();
-    grow(marks, files.len())?;
+    fit(marks, files.len())?;
     reach(marks, order, files, file)?;
     Ok(())
 }
@@ -202,11 +203,12 @@ impl SeenFiles {
     }
 
     /// Looks from `file`, and forgets what was seen before. `files` has the links of all files by
-    /// their indexes; indexes of no file are passed over. After an `Err` it is not said which files
-    /// are seen.
+    /// their indexes; indexes of no file are passed over, so that none of them is seen. After an
+    /// `Err` it is not said which files are seen.
     pub fn look_from(&mut self, files: &[Links], file: FileIndex) -> Result<(), AllocError>
-        ensures { OnOk result ((g : ℕ) → g < length files.now
+        ensures files { OnOk result ((g : ℕ) → g < length files.now
             → (IsTrue (tells self.new g) ↔ Sees files.now file g)) }
+        ensures others { OnOk result ((g : ℕ) → length files.now ≤ g → tells self.new g ≡ false) }
     {
         look(&mut self.marks, &mut self.order, files, file)
     }

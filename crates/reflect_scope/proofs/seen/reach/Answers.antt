@@ -21,7 +21,7 @@ reach-init c =
     record {
       marked = c.in_ok-mark_imports.ensures.marked was;
       listed = c.mark_imports.ensures.listed listed;
-      room = subst (λ n. length files ≤ n) (sym same) c.requires.room;
+      room = subst (λ n. length files ≡ n) (sym same) c.requires.room;
       within = omega arith;
       searching = search_start (length marks) (publics_at files) starts order
           (subst (λ xs. Extends (Contains starts) xs order) c.requires.none c.in_ok-mark_imports.ensures.grown)
@@ -47,7 +47,7 @@ reach-preserved c =
     record {
       marked = c.in_ok-mark_public.ensures.marked c.reach.invariant.marked;
       listed = c.mark_public.ensures.listed c.reach.invariant.listed;
-      room = subst (λ n. length files ≤ n) (sym same) c.reach.invariant.room;
+      room = subst (λ n. length files ≡ n) (sym same) c.reach.invariant.room;
       within = omega (arith, longer);
       searching = subst (λ n. Searching n p starts new (take (k + 1) new)) (sym same)
           (search_more (length marks) p starts order new k at lt c.reach.invariant.searching
@@ -68,16 +68,20 @@ returns-clause-sees c =
     let s = subst (Searching (length marks) p starts order) ended c.reach.invariant.searching in
     let m = c.in_ok-mark.ensures.marked c.reach.invariant.marked in
     let e = c.in_ok-mark.ensures.grown in
-    let dead = publics_dead files (length marks) c.reach.invariant.room in
+    let room : length files ≤ length marks = let is = c.reach.invariant.room in omega (arith, is) in
+    let dead = publics_dead files (length marks) room in
     let sound : (g : ℕ) → Contains new g → Sees files f g = λ g h. elim (Contains-append_cases order e.more g (subst (λ xs. Contains xs g) e.is h)) [
       | inl was ↦ inr (s.sound g was)
       | inr more ↦ inl (e.each g more)
     ] in
     λ g lt.
-    let within : g < length marks = let room = c.reach.invariant.room in omega (arith, room) in (
+    let within : g < length marks = omega (arith, room) in (
       λ h. sound g (m.listed g h),
       λ h. m.marked g (elim h [
         | inl is ↦ subst (Contains new) (sym is) (c.in_ok-mark.ensures.there c.reach.invariant.marked (subst (λ x. x < length marks) is within))
         | inr r ↦ extends_keeps (λ x. x ≡ f) order new e g (found (length marks) p starts order dead s g within r)
       ]),
     )
+
+pub returns-clause-same : goal.returns-clause-same
+returns-clause-same c = c.mark.ensures.same ∙ sym c.reach.invariant.room

@@ -11,6 +11,6 @@ returns-clause-step c =
     let same = ap (λ o. record e { name = c.package_of.result.now; options = o }) c.as_ref.ensures.value ∙ ap (λ n. record e { name = n }) c.package_of.ensures in
     record {
       there = there;
-      looks = record { pool = refl; seen = (c.links.result.now, c.links.ensures, c.in_ok-look_from.ensures); edits = refl; moved = refl; fault = refl };
+      looks = record { pool = refl; seen = (c.links.result.now, c.links.ensures, c.in_ok-look_from.ensures.files); edits = refl; moved = refl; fault = refl };
       passes = (c.settle.new.self, (subst (λ (x : Entity). Passes there x c.settle.new.self) same c.in_ok-settle.ensures, refl));
     }
