@@ -1,4 +1,4 @@
-ghost use Rattle.std.specs.Prelude.{◌≡◌, OnOk, IfOk, pos, [], ◌∷◌, ◌++◌};
+ghost use Rattle.std.specs.Prelude.{◌≡◌, ◌<◌, ◌≤◌, ◌+◌, ◌^◌, ◌⊎◌, OnOk, IfOk, IfErr, length, pos, [], ◌∷◌, ◌++◌};
 ghost use Rattle.std.specs.List.{cons_option, filter_map};
 ghost use Rattle.std.specs.BTreeMap.{get_by_text};
 ghost use Rattle.reflect_declarations.specs.Declarations.{each};
@@ -9,6 +9,7 @@ ghost use Rattle.reflect_names.specs.ImportedFiles.{file_of, import_at as import
 ghost use Rattle.reflect_scope.specs.FileIndexes.{link_view};
 ghost use Rattle.reflect_names.specs.Names.{import_fault, public_fault, import_faults};
 ghost use Rattle.reflect_scope.specs.FileIndexes.{is_index as is_index_of};
+ghost use Rattle.reflect_walk.specs.declared.visit_error.VisitError.TheVariants.{TooMany, Memory};
 
 use crate::error::DescriptorErrorKind;
 use crate::faults::Faults;
@@ -67,8 +68,9 @@ fn name_file(
 /// of files to their indexes.
 ///
 /// A file without a name is a fault (MissingRequiredField), and so is one whose name the map has
-/// (DuplicateFileName); the map keeps the earlier file. `TooMany` is a file's index past
-/// `i32::MAX`. After an `Err` the map may have some of the names.
+/// (DuplicateFileName); the map keeps the earlier file. The answer is `TooMany`, or for want of
+/// memory `Memory`, where a file's index is past `i32::MAX`, and `TooMany` nowhere else. After an
+/// `Err` the map may have some of the names.
 pub fn name_files(
     alloc: Global,
     file_names: &mut BTreeMap<String, FileIndex>,
@@ -81,6 +83,9 @@ pub fn name_files(
     ensures faults { OnOk result (Adds faults.old faults.new
         (files_faults (place_at faults.old) (indexes_of file_names.old) first files.now)) }
     ensures keeps { KeepsIndexes first (indexes_of file_names.old) (indexes_of file_names.new) }
+    ensures few { OnOk result (0 < length files.now → first + length files.now ≤ 2 ^ 31) }
+    ensures many { IfErr result (λ e. ((e ≡ TooMany) × (2 ^ 31 < first + length files.now))
+        ⊎ (e ≡ Memory)) }
 {
     let mut index = first;
     'turns: for file in files {

@@ -1,4 +1,4 @@
-use Rattle.std.proofs.Common.{◌∙◌, arith}
+use Rattle.std.proofs.Common.{◌≤◌, ◌∙◌, arith, rules}
 use Rattle.reflect_scope.specs.FileIndexes.{indexes_of}
 use Rattle.reflect_names.proofs.FileRuns.{with_more, faults_more, keeps_on}
 use Rattle.reflect_names.proofs.imports.name_files.Goals as goal
@@ -17,6 +17,7 @@ turns-preserved c =
       faults = faults_more known now c.args.first c.turns.index k fs f lt c.file-item.is before.index before.names c.args.faults.now c.turns.faults c.name_file.new.faults before.faults c.in_ok-name_file.ensures.faults;
       keeps = keeps_on c.args.first c.turns.index (indexes_of c.args.file_names.now) (indexes_of c.turns.file_names) (indexes_of c.name_file.new.file_names) (omega (arith, before.index)) before.keeps c.name_file.ensures.keeps;
       index = omega (arith, before.index);
+      few = λ some. let within : c.turns.index ≤ 2147483647 = search rules in omega (arith, before.index, within);
     }
 
 pub returns-in_err-name_file-clause-keeps : goal.returns-in_err-name_file-clause-keeps
