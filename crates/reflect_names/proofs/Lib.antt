@@ -8,4 +8,5 @@ pub mod ReferenceRuns
 pub mod FileRuns
 pub mod ImportRuns
 pub mod Lines
+pub mod LinesBack
 pub mod Numbered

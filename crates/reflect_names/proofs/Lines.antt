@@ -13,7 +13,7 @@ behind_one : (n : ℕ) (o : Option ℕ) → behind n (option_map suc o) ≡ behi
 behind_one n None = refl
 behind_one n (Some k) = ap Some (omega arith)
 
-starts_at_zero : (s : List ℕ) → first_of_line s 0 ≡ Some 0
+pub starts_at_zero : (s : List ℕ) → first_of_line s 0 ≡ Some 0
 starts_at_zero [] = refl
 starts_at_zero (b ∷ rest) = refl
 

@@ -6,6 +6,7 @@ mod error;
 mod faults;
 mod imports;
 mod label;
+pub mod laws;
 mod name_visitor;
 mod names;
 mod required;
