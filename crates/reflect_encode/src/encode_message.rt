@@ -22,7 +22,8 @@ pub trait EncodeMessage {
             (n < 2 ^ 64) n };
 
     /// Adds the message's wire bytes to `out`: declared fields by ascending number, then extensions
-    /// and other records by ascending number. What does not suit its field is left out.
+    /// and other records by ascending number. What comes of a value that does not suit its field
+    /// need not be read again.
     ///
     /// Refused for want of memory alone, which leaves `out`.
     fn encode(&self, out: &mut Vec<u8>) -> Result<(), WireError>
