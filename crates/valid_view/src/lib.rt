@@ -9,4 +9,4 @@ pub mod laws;
 pub mod messages;
 mod whole;
 
-pub use whole::values_are_whole;
+pub use whole::{slices_are_of_bytes, values_are_whole};

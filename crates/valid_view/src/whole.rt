@@ -1,8 +1,10 @@
 //! What the types of the code say of each value that it has.
+ghost use Rattle.std.specs.Prelude.{◌<◌};
 ghost use Rattle.std.specs.List.{AllByRecursion};
 ghost use Rattle.reflect_scalar.specs.Singles.{blob, enumerated, int32, int64, scalar_view};
 ghost use Rattle.reflect_scalar.specs.Singles.{text, uint32, uint64};
 ghost use Rattle.reflect_scalar.specs.Written.{Fits};
+ghost use Rattle.reflect_wire.specs.Written.{AreBytes};
 ghost use Rattle.valid_view.specs.Inside.{AreAscending, IfSingle, IsWhole, KeysFit, ValuesFit};
 
 use reflect_message::{ScalarValue, Value};
@@ -93,4 +95,26 @@ pub fn values_are_whole(value: &Value<'_>)
         Value::Map(entries) => map_fits(entries),
         _ => single_fits(value),
     }
+}
+
+fn is_byte(byte: u8)
+    ensures { byte < 256 }
+{}
+
+fn each_is_byte(bytes: &[u8])
+    ensures { AllByRecursion (λ b. b < 256) bytes.now }
+{
+    'bytes: for byte in bytes {
+        is_byte(*byte);
+    }
+}
+
+/// Each byte of a slice is below 256, as the laws of bytes, of messages and of texts ask.
+///
+/// Nothing comes of it: whoever calls this has then said of a slice what its type keeps of each.
+pub fn slices_are_of_bytes(bytes: &[u8])
+    ensures bytes { AreBytes bytes.now }
+    ensures each { AllByRecursion (λ b. b < 256) bytes.now }
+{
+    each_is_byte(bytes);
 }
