@@ -47,3 +47,6 @@ mod DecidingKinds
 mod DecidingRows
 mod DecidingTaken
 mod OneDecoder
+mod PutBytes
+mod ToldOnce
+mod WorkedTold

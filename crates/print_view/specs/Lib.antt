@@ -2,3 +2,4 @@ pub mod Forms
 pub mod Expansions
 pub mod InBytes
 pub mod Readable
+pub mod Told

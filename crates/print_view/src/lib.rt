@@ -2,6 +2,8 @@
 //! says. It has no code.
 #![tactic(auto)]
 
+pub mod bytes;
 pub mod decoder;
 pub mod laws;
+pub mod told;
 pub mod unknown;

@@ -1,0 +1,20 @@
+//! Laws of what is printed of unknown records, which is no text of the language, so that no other
+//! law tells what it is.
+ghost use Rattle.std.specs.Prelude.{◌≡◌, ℕ, Bool};
+ghost use Rattle.std.specs.List.{AllByRecursion};
+ghost use Rattle.protox_lex.specs.Class.{Text};
+ghost use Rattle.reflect_wire.specs.Records.{Payload};
+ghost use Rattle.text_lines.specs.UnknownTexts.{IsPayloadText, IsRecordText};
+ghost use Rattle.print_view.specs.Told.{told};
+
+/// A record is told in one text, whatever its payloads spell.
+pub fn records_are_told_in_one_text()
+    ensures { (pretty : Bool) (payloads indent : ℕ) (r : ℕ × Payload) (a b : Text)
+        → IsRecordText pretty (IsPayloadText payloads pretty) indent r a
+        → IsRecordText pretty (IsPayloadText payloads pretty) indent r b → a ≡ b }
+{}
+
+/// Worked records are told as their texts.
+pub fn worked_records_are_told()
+    ensures { AllByRecursion (λ e. IsRecordText e.0 (IsPayloadText 100 e.0) 0 e.1 e.2) told }
+{}
