@@ -13,6 +13,7 @@ use Rattle.reflect_message.specs.Oneofs.{IsExclusive, SetsField, sibling}
 use Rattle.reflect_message.specs.Present.{is_held}
 use Rattle.reflect_message.specs.Names.{DynamicMessage, Value}
 use Rattle.reflect_format.specs.Kinds.{single_of}
+use Rattle.reflect_extend.specs.Others.{KeepsOther, StaysUnset}
 use Rattle.reflect_extend.specs.Puts.{PutsEntries, PutsSome}
 use Rattle.reflect_extend.specs.Siblings.{KeepsRest, LacksSibling}
 use Rattle.reflect_format.specs.Takes.{holds_many, target_pool, target_type}
@@ -69,7 +70,7 @@ Frees (targets.Field f) old new = LacksSibling f (choices_of old) (fields_of new
 Frees (targets.Extension x) old new = Unit {0}
 
 -- values are put behind those of a list, or the entries that they are into a map, and the other
--- member of its oneof is unset
+-- member of its oneof is unset; what stands under a list's number and is none stays
 abbrev pub AddsValues : Target → List Value → DynamicMessage → DynamicMessage → Type 0
 AddsValues t vs old new = ChangesOnly t old new
     × (holds_list (target_pool t) (target_type t) ≡ true
@@ -78,6 +79,8 @@ AddsValues t vs old new = ChangesOnly t old new
     → PutsEntries (held_by old t) (held_by new t) vs)
     × StaysExclusive t old new × StaysAscending old new
     × (holds_many t ≡ true → Frees t old new)
+    × (holds_list (target_pool t) (target_type t) ≡ true
+    → KeepsOther (held_by old t) (held_by new t))
 
 -- what is held stays, and of each oneof one member at most
 abbrev pub Leaves : Target → DynamicMessage → DynamicMessage → Type 0
@@ -89,7 +92,8 @@ ChangesIt (targets.Field f) old new = KeepsRest f (fields_of old) (fields_of new
     × (extensions_of new ≡ extensions_of old) × (unknown_of new ≡ unknown_of old)
 ChangesIt (targets.Extension x) old new = ChangesOnly (targets.Extension x) old new
 
--- a list keeps its values, and of the entries that the values are the first are put into a map
+-- a list keeps its values, as does what is none under its number, and of the entries that the
+-- values are the first are put into a map; where nothing stood nothing does
 abbrev pub AddsPart : Target → List Value → DynamicMessage → DynamicMessage → Type 0
 AddsPart t vs old new = ChangesIt t old new
     × (holds_list (target_pool t) (target_type t) ≡ true
@@ -97,6 +101,9 @@ AddsPart t vs old new = ChangesIt t old new
     × (holds_map (target_pool t) (target_type t) ≡ true
     → PutsSome (held_by old t) (held_by new t) vs)
     × StaysExclusive t old new × StaysAscending old new
+    × (holds_list (target_pool t) (target_type t) ≡ true
+    → KeepsOther (held_by old t) (held_by new t))
+    × StaysUnset (held_by old t) (held_by new t)
 
 -- the field of the number, one of the message's type, gets what is given
 abbrev pub SetsNumber : ℕ → Single → DynamicMessage → DynamicMessage → Type 0
