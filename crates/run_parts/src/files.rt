@@ -1,8 +1,10 @@
 //! The files that a run reads.
 
-ghost use Rattle.std.specs.Prelude.{◌≡◌, Some};
+ghost use Rattle.std.specs.Prelude.{◌≡◌, IfErr, IfOk, Some};
+ghost use Rattle.run_parts.specs.Refusals.{RefusesText};
 ghost use Rattle.run_parts.specs.Statuses.{status_of};
 ghost use Rattle.run_parts.specs.Texts.{said};
+ghost use Rattle.run_parts.specs.declared.files.FileFault.TheVariants as files;
 
 use schema_words::Request;
 use std::alloc::{AllocError, AllocFailed, Global};
@@ -60,12 +62,16 @@ impl fmt::Display for FileFault {
 }
 
 impl From<AllocError> for FileFault {
+    ghost from_gives = { λ _ f. f ≡ files.Memory };
+
     fn from(_error: AllocError) -> FileFault {
         FileFault::Memory
     }
 }
 
 impl<T: Drop> From<AllocFailed<T>> for FileFault {
+    ghost from_gives = { λ _ f. f ≡ files.Memory };
+
     fn from(_error: AllocFailed<T>) -> FileFault {
         FileFault::Memory
     }
@@ -100,7 +106,10 @@ pub fn read_sources<F: SourceFiles>(
 }
 
 /// The text that the bytes of a file are, which a refusal calls by the name.
-pub fn text_of<'a>(alloc: Global, name: &str, bytes: &'a [u8]) -> Result<&'a str, FileFault> {
+pub fn text_of<'a>(alloc: Global, name: &str, bytes: &'a [u8]) -> Result<&'a str, FileFault>
+    ensures text { IfOk result (λ text. text.now ≡ bytes.now) }
+    ensures refused { IfErr result (RefusesText bytes.now name.now) }
+{
     match str::from_utf8(bytes) {
         Ok(text) => Ok(text),
         Err(_) => Err(FileFault::NotUtf8(String::from_str(alloc, name)?)),

@@ -1,5 +1,9 @@
 //! The lines that a run writes, of its refusals and of its words.
 
+ghost use Rattle.std.specs.Prelude.{◌≡◌, ◌≢◌, ◌⊎◌};
+ghost use Rattle.clap.specs.Values.{kind_of};
+ghost use Rattle.clap.specs.declared.error.kind.ErrorKind.TheVariants as kind;
+
 use crate::files::FileFault;
 use clap::error::ErrorKind;
 use std::alloc::Global;
@@ -20,13 +24,20 @@ fn write_version<W: Write>(alloc: Global, stream: &mut W, version: clap::Error) 
     }
 }
 
-/// Writes help, or why the command line is refused, and gives the status.
+/// Writes help, or why the command line is refused, and gives the status: 0 where help or the
+/// version was asked for, 5 where memory ran out, and else 2.
 pub fn tell_usage<W: Write, E: Write>(
     alloc: Global,
     error: clap::Error,
     output: &mut W,
     errors: &mut E,
-) -> u8 {
+) -> u8
+    ensures memory { kind_of error ≡ kind.OutOfMemory → result ≡ 5 }
+    ensures shown { (kind_of error ≡ kind.DisplayHelp) ⊎ (kind_of error ≡ kind.DisplayVersion)
+        → result ≡ 0 }
+    ensures refused { kind_of error ≢ kind.OutOfMemory → kind_of error ≢ kind.DisplayHelp
+        → kind_of error ≢ kind.DisplayVersion → result ≡ 2 }
+{
     if error.kind() == ErrorKind::OutOfMemory {
         write_line(alloc, errors, FileFault::Memory);
         5

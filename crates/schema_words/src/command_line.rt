@@ -1,5 +1,10 @@
 //! The words of the command line.
 
+ghost use Rattle.std.specs.Prelude.{IfNone, IfSome};
+ghost use Rattle.clap.specs.Matches.{found_of};
+ghost use Rattle.schema_words.specs.Asked.{Asks, AsksNothing, AsksTask};
+ghost use Rattle.schema_words.specs.declared.request.Task.{Task};
+
 use crate::request::{Action, Request, Task};
 use clap::{Arg, ArgAction, ArgMatches, Command, Error};
 use std::alloc::{AllocError, Global};
@@ -98,7 +103,10 @@ pub fn parse<'a>(alloc: Global, words: &'a [&'a str]) -> Result<ArgMatches<'a>, 
 
 /// What is asked of the payload, or of the schema itself; nothing where a word is missing that the
 /// command line requires.
-fn asked_task<'m, 'a>(matches: &'m ArgMatches<'a>) -> Option<Task<'m>> {
+fn asked_task<'m, 'a>(matches: &'m ArgMatches<'a>) -> Option<Task<'m>>
+    ensures asked { IfSome result (AsksTask (found_of matches.now)) }
+    ensures none { IfNone result ((task : Task) → AsksTask (found_of matches.now) task → ⊥) }
+{
     let action = match matches.get_str("action")? {
         "encode" => Action::Encode,
         "decode" => Action::Decode,
@@ -111,7 +119,10 @@ fn asked_task<'m, 'a>(matches: &'m ArgMatches<'a>) -> Option<Task<'m>> {
 
 /// What the words that were read ask for; nothing where a word is missing that the command line
 /// requires.
-pub fn requested<'m, 'a>(matches: &'m ArgMatches<'a>) -> Option<Request<'m>> {
+pub fn requested<'m, 'a>(matches: &'m ArgMatches<'a>) -> Option<Request<'m>>
+    ensures asked { IfSome result (Asks (found_of matches.now)) }
+    ensures none { IfNone result (AsksNothing (found_of matches.now)) }
+{
     Some(Request {
         task: asked_task(matches)?,
         descriptor: matches.get_str("descriptor"),

@@ -1,0 +1,12 @@
+-- Why bytes are no text.
+use Rattle.std.specs.Prelude.{◌≡◌, ℕ, List, string_bytes}
+use Rattle.std.specs.Str.{IsUtf8}
+use Rattle.run_parts.specs.declared.files.FileFault.{FileFault}
+use Rattle.run_parts.specs.declared.files.FileFault.TheVariants as files
+
+-- they are not UTF-8, and are called by the name, or memory runs out
+abbrev pub RefusesText : List ℕ → List ℕ → FileFault → Type 0
+RefusesText bytes name (files.NotUtf8 called) = (string_bytes called ≡ name)
+    × (IsUtf8 bytes → ⊥)
+RefusesText bytes name (files.Read path) = ⊥
+RefusesText bytes name files.Memory = Unit {0}
