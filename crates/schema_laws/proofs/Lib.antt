@@ -8,6 +8,7 @@ pub mod ReadUnset
 pub mod AddedBatches
 pub mod RefusedBatches
 pub mod TextsAlike
+pub mod Unplaced
 pub mod SameFiles
 pub mod PlainRecords
 pub mod OwnSets

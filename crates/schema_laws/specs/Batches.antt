@@ -1,5 +1,5 @@
 -- Files that were added to schemas in batches, and why files are no batch behind a schema's.
-use Rattle.std.specs.Prelude.{◌⊎◌, List, map, Contains}
+use Rattle.std.specs.Prelude.{◌⊎◌, List, None, map, Contains}
 use Rattle.descriptor_records.specs.Content.{FileContent, file_view}
 use Rattle.descriptor_records.specs.declared.file.FileDescriptorProto.{FileDescriptorProto}
 use Rattle.reflect_build.specs.Refusals.{AreTooMany, IsOf, Linking, new_files}
@@ -18,11 +18,15 @@ pub record Grows (old new : Schema) : Type 0 where
   pub addition : Addition
   pub linked : AdditionLinked old.pool addition new.pool
 
--- the same files, whose names have no dots, as sources give them, were added to both schemas in
--- these batches and in those
+-- a file without what it tells of lines, columns and comments
+abbrev pub unplaced : FileContent → FileContent
+unplaced f = record f { source_code_info = None }
+
+-- the same files, but for lines, columns and comments, were added to both schemas in these batches
+-- and in those; their names have no dots, as sources give them
 pub record HaveSameFiles (batches others : List (List FileContent)) (s t : Schema) : Type 0 where
   pub plain : (f : FileContent) → Contains (sources batches) f → IsPlainFile f
-  pub same : SameFiles (sources batches) (sources others)
+  pub same : SameFiles (map unplaced (sources batches)) (map unplaced (sources others))
   pub first : IsTyped batches s.pool
   pub second : IsTyped others t.pool
   pub pool : IsPool s.pool
