@@ -52,3 +52,4 @@ pub mod Accepted
 pub mod Numbers
 pub mod Pieces
 pub mod Stored
+pub mod WrittenAlike

@@ -54,6 +54,8 @@ pub fn own_sets_are_not_refused()
 pub fn own_sets_give_the_same_schema()
     ensures records { (s t : Schema) → IsGrown s → HoldsOptions s.pool
         → IsDetour s t → AreBytes (pool_bytes s.pool)
+    ensures set { (s t : Schema) → IsGrown s → HoldsOptions s.pool
+        → IsDetour s t → AreBytes (pool_bytes s.pool) → pool_bytes t.pool ≡ pool_bytes s.pool }
         → map file_view t.pool.records ≡ map file_view s.pool.records }
     ensures types { (s t : Schema) → IsGrown s → IsDetour s t
         → types_of t.pool ≡ types_of s.pool }

@@ -36,3 +36,9 @@ pub fn own_sets_are_read_as_their_records()
         → SpellsSet (pool_bytes s.pool) files
         → map file_view files ≡ map file_view s.pool.records }
 {}
+
+/// Pools that have the same records have the same set.
+pub fn pools_of_the_same_records_have_the_same_set()
+    ensures { (p q : PoolType) → map file_view p.records ≡ map file_view q.records
+        → pool_bytes p ≡ pool_bytes q }
+{}
