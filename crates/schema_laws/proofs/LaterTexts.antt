@@ -48,7 +48,7 @@ module _ (name : List ℕ) where
         let m = get_or p.messages i no_type in
         absurd (none_found bears p.messages m e (get_contains p.messages i m (slice_get-get_or p.messages i no_type found.0)) ((bytes_eq-Decides m.full_name (without_dot name)).1 (found.1.0 no_type)))
 
-  known : (p : PoolType) → type_called p name ≡ Some (without_dot name) → IsUnknown p name → ⊥
+  pub known : (p : PoolType) → type_called p name ≡ Some (without_dot name) → IsUnknown p name → ⊥
   known p e none =
       mapped (λ (m : MessageType). m.full_name) (find bears p.messages) (without_dot name) e (λ m here same.
       let at = (found_there bears p.messages m here).0 in

@@ -52,4 +52,6 @@ pub mod Accepted
 pub mod Numbers
 pub mod Pieces
 pub mod Stored
+pub mod Refusing
+pub mod PassedTexts
 pub mod WrittenAlike

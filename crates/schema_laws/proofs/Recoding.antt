@@ -1,5 +1,5 @@
 -- What schemas decode and recode is what the model's types do.
-use Rattle.std.proofs.Common.{◌≡◌, ◌<◌, ◌^◌, ◌∙◌, ℕ, List, [], ◌∷◌, length, map, ap, sym, subst}
+use Rattle.std.proofs.Common.{◌≡◌, ◌<◌, ◌^◌, ◌∙◌, ◌↔◌, ℕ, List, [], ◌∷◌, length, map, ap, sym, subst}
 use Rattle.protobuf_model.specs.Bytes.{bytes_of}
 use Rattle.protobuf_model.specs.Coded.{AreOlderThan, IsAccepted, IsRecoded, IsRecodedThrough, Mean}
 use Rattle.protobuf_model.specs.Older.{IsOlder}
@@ -7,7 +7,7 @@ use Rattle.protobuf_model.specs.Typed.{HaveDefaults}
 use Rattle.protobuf_model.specs.Types.{Name, Types}
 use Rattle.protobuf_model.specs.Values.{Message, nothing}
 use Rattle.protobuf_model.proofs.Bytewise.{bytes_mean, merged_well, one_meaning}
-use Rattle.protobuf_model.proofs.Chains.{accepted_by_older, passes, same_as_direct}
+use Rattle.protobuf_model.proofs.Chains.{accepted_by_older, one_normal_form as equal_where_meant, passes, same_as_direct}
 use Rattle.protobuf_model.proofs.Merging.{nothing_typed}
 use Rattle.reflect_pool.specs.Dots.{without_dot}
 use Rattle.reflect_pool.specs.declared.message.MessageDescriptor.{MessageDescriptor}
@@ -120,6 +120,22 @@ one_normal_form new ss older bytes out x y b h k l =
     bytes out x y (direct.1.0, direct.1.1) chain.0
     (recodes new.0.pool new.0.sound new.1 out x chain.1 k) direct
 
+pub equal_forms : (new : SchemaType) (ss ts : List SchemaType)
+    → AreOlderThan (types_of new.0.pool) (without_dot new.1) (map type_of ss)
+    → AreOlderThan (types_of new.0.pool) (without_dot new.1) (map type_of ts)
+    → (a b x y p q : List ℕ) → AreBytes a → AreBytes b → RecodedThrough ss a x → RecodedThrough ts b y
+    → Recoded new.0.pool new.1 x p → Recoded new.0.pool new.1 y q
+    → length p < 2 ^ 64 → length q < 2 ^ 64 → (m n : Message)
+    → Mean (types_of new.0.pool) (without_dot new.1) a m
+    → Mean (types_of new.0.pool) (without_dot new.1) b n → (p ≡ q) ↔ (m ≡ n)
+equal_forms new ss ts older also a b x y p q small little h k first second short brief m n means other =
+    let f = through ss a x small h in
+    let g = through ts b y little k in
+    equal_where_meant (types_of new.0.pool) (without_dot new.1) (defaults new.0.pool new.0.sound)
+    (map type_of ss) (map type_of ts) older also a b x y p q m n means other f.0 g.0
+    (recodes new.0.pool new.0.sound new.1 x p f.1 first)
+    (recodes new.0.pool new.0.sound new.1 y q g.1 second) short brief
+
 -- schemas with the same types recode alike
 pub recoded_alike : (p q : PoolType) → IsSound p → IsSound q → types_of p ≡ types_of q
     → (name bytes a b : List ℕ) → AreBytes bytes → Recoded p name bytes a → Recoded q name bytes b
@@ -130,12 +146,3 @@ recoded_alike p q sound also same name bytes a b small first second =
     let x = subst (λ ts. IsRecoded ts t bytes a) same (recodes p sound name bytes a small first) in
     let y = recodes q also name bytes b small second in
     sym x.2 ∙ ap (bytes_of types t) (one_meaning types t nothing bytes x.0 y.0 x.1 y.1) ∙ y.2
-
--- what the one recodes the other does not refuse
-pub accepted_alike : (p q : PoolType) → IsSound p → IsSound q → types_of p ≡ types_of q
-    → (name bytes out : List ℕ) (e : WireError) → AreBytes bytes
-    → Recoded p name bytes out → IsNoMessage q name bytes e → ⊥
-accepted_alike p q sound also same name bytes out e small first none =
-    let r = recodes p sound name bytes out small first in
-    refused q also name bytes e none
-    (subst (λ ts. IsAccepted ts (without_dot name) bytes) same (r.1.0, r.1.1))

@@ -19,7 +19,7 @@ use Rattle.schema_view.specs.Views.{declared_at, extension_at, file_at, first, v
 use Rattle.schema_view.proofs.Batches.{same_view}
 use Rattle.schema_view.proofs.Lists.{contains_here, contains_map, contains_map_cases, contains_there, first_from, first_some, one_of, sum_map}
 use Rattle.schema_view.proofs.Renames.{map_same}
-use Rattle.linked_alike.proofs.ReadViews.{first_same}
+use Rattle.texts_view.proofs.ReadViews.{first_same}
 use Rattle.schema_laws.specs.Batches.{unplaced}
 
 -- ---- lists

@@ -9,15 +9,15 @@ ghost use Rattle.reflect_build.specs.Refusals.{IsOf, Linking, new_files};
 ghost use Rattle.reflect_bytes.specs.Spelled.{SpellsSet};
 ghost use Rattle.reflect_passes.specs.declared.error.DescriptorError.{DescriptorError};
 ghost use Rattle.reflect_wire.specs.Written.{AreBytes};
-ghost use Rattle.reflect_wire.specs.declared.wire_error.WireError.{WireError};
-ghost use Rattle.text_error.specs.declared.error.ParseErrorKind.{ParseErrorKind};
 ghost use Rattle.message_view.specs.Types.{types_of};
 ghost use Rattle.types_view.specs.Pools.{IsBuiltBut};
 ghost use Rattle.types_view.specs.Typed.{IsTyped};
 ghost use Rattle.schema_core.specs.Payloads.{Decoded, Encoded, Recoded};
-ghost use Rattle.schema_core.specs.Refusals.{AreFilesOf, IsNoMessage, IsNoText, IsPool, SetLinked};
+ghost use Rattle.schema_core.specs.Refusals.{AreFilesOf, BytesRefused, IsPool, SetLinked};
 ghost use Rattle.schema_core.specs.Refusals.{SetRefused, SourcesLinked, SourcesRefused};
-ghost use Rattle.schema_core.specs.declared.error.SchemaError.TheVariants.{Link};
+ghost use Rattle.schema_core.specs.Refusals.{TextRefused};
+ghost use Rattle.schema_core.specs.declared.error.SchemaError.{SchemaError};
+ghost use Rattle.schema_core.specs.declared.error.SchemaError.TheVariants.{Link, Memory};
 ghost use Rattle.schema_core.specs.declared.schema.Schema.{Schema};
 ghost use Rattle.schema_laws.specs.Batches.{AreNoBatch, HaveSameFiles};
 
@@ -79,12 +79,16 @@ pub fn schemas_of_the_same_files_recode_alike()
         → Recoded t.pool name bytes b → a ≡ b }
 {}
 
-/// Nor does the one refuse what the other recodes.
+/// Nor does the one refuse what the other recodes or decodes, but for want of memory.
 pub fn schemas_of_the_same_files_accept_alike()
-    ensures { (batches others : List (List FileContent)) (s t : Schema)
+    ensures recoded { (batches others : List (List FileContent)) (s t : Schema)
         → HaveSameFiles batches others s t
-        → (name bytes out : List ℕ) (e : WireError) → AreBytes bytes
-        → Recoded s.pool name bytes out → IsNoMessage t.pool name bytes e → ⊥ }
+        → (name bytes out : List ℕ) (e : SchemaError) → AreBytes bytes
+        → Recoded s.pool name bytes out → BytesRefused t.pool name bytes e → e ≡ Memory }
+    ensures decoded { (batches others : List (List FileContent)) (s t : Schema)
+        → HaveSameFiles batches others s t
+        → (name bytes text : List ℕ) (e : SchemaError) → AreBytes bytes
+        → Decoded s.pool name bytes text → BytesRefused t.pool name bytes e → e ≡ Memory }
 {}
 
 /// What both encode a text to is the same bytes too.
@@ -95,12 +99,12 @@ pub fn schemas_of_the_same_files_encode_alike()
         → a ≡ b }
 {}
 
-/// And the one refuses no text that the other encodes.
+/// And the one refuses no text that the other encodes, but for want of memory.
 pub fn schemas_of_the_same_files_take_texts_alike()
     ensures { (batches others : List (List FileContent)) (s t : Schema)
         → HaveSameFiles batches others s t
-        → (name text out : List ℕ) (kind : ParseErrorKind)
-        → Encoded s.pool name text out → IsNoText t.pool name text kind → ⊥ }
+        → (name text out : List ℕ) (e : SchemaError)
+        → Encoded s.pool name text out → TextRefused t.pool name text e → e ≡ Memory }
 {}
 
 /// What both print of bytes is the same text.

@@ -13,12 +13,11 @@ ghost use Rattle.reflect_build.specs.Refusals.{AreTooMany};
 ghost use Rattle.reflect_bytes.specs.Written.{pool_bytes};
 ghost use Rattle.reflect_pool.specs.Linked.{empty_pool};
 ghost use Rattle.reflect_wire.specs.Written.{AreBytes};
-ghost use Rattle.reflect_wire.specs.declared.wire_error.WireError.{WireError};
-ghost use Rattle.text_error.specs.declared.error.ParseErrorKind.{ParseErrorKind};
 ghost use Rattle.schema_laws.specs.HeldOptions.{HoldsOptions};
 ghost use Rattle.text_view.specs.Schemas.{schema_of};
 ghost use Rattle.schema_core.specs.Payloads.{Decoded, Encoded, Recoded};
-ghost use Rattle.schema_core.specs.Refusals.{IsNoMessage, IsNoText, SetRefused, SourcesLinked};
+ghost use Rattle.schema_core.specs.Refusals.{BytesRefused, SetRefused, SourcesLinked};
+ghost use Rattle.schema_core.specs.Refusals.{TextRefused};
 ghost use Rattle.schema_core.specs.declared.error.SchemaError.{SchemaError};
 ghost use Rattle.schema_core.specs.declared.error.SchemaError.TheVariants.{Memory};
 ghost use Rattle.schema_core.specs.declared.schema.Schema.{Schema};
@@ -54,9 +53,9 @@ pub fn own_sets_are_not_refused()
 pub fn own_sets_give_the_same_schema()
     ensures records { (s t : Schema) → IsGrown s → HoldsOptions s.pool
         → IsDetour s t → AreBytes (pool_bytes s.pool)
+        → map file_view t.pool.records ≡ map file_view s.pool.records }
     ensures set { (s t : Schema) → IsGrown s → HoldsOptions s.pool
         → IsDetour s t → AreBytes (pool_bytes s.pool) → pool_bytes t.pool ≡ pool_bytes s.pool }
-        → map file_view t.pool.records ≡ map file_view s.pool.records }
     ensures types { (s t : Schema) → IsGrown s → IsDetour s t
         → types_of t.pool ≡ types_of s.pool }
     ensures names { (s t : Schema) → IsGrown s → IsDetour s t
@@ -64,35 +63,44 @@ pub fn own_sets_give_the_same_schema()
         → schema_of t.pool decoded ≡ schema_of s.pool decoded }
 {}
 
-/// So both recode bytes to the same, and neither refuses what the other recodes.
+/// So both recode bytes to the same, and neither refuses what the other recodes, but for want of
+/// memory.
 pub fn schemas_of_own_sets_recode_alike()
     ensures same { (s t : Schema) → IsGrown s → IsDetour s t
         → (name bytes a b : List ℕ) → AreBytes bytes → Recoded s.pool name bytes a
         → Recoded t.pool name bytes b → a ≡ b }
     ensures first { (s t : Schema) → IsGrown s → IsDetour s t
-        → (name bytes out : List ℕ) (e : WireError) → AreBytes bytes
-        → Recoded s.pool name bytes out → IsNoMessage t.pool name bytes e → ⊥ }
+        → (name bytes out : List ℕ) (e : SchemaError) → AreBytes bytes
+        → Recoded s.pool name bytes out → BytesRefused t.pool name bytes e → e ≡ Memory }
     ensures second { (s t : Schema) → IsGrown s → IsDetour s t
-        → (name bytes out : List ℕ) (e : WireError) → AreBytes bytes
-        → Recoded t.pool name bytes out → IsNoMessage s.pool name bytes e → ⊥ }
+        → (name bytes out : List ℕ) (e : SchemaError) → AreBytes bytes
+        → Recoded t.pool name bytes out → BytesRefused s.pool name bytes e → e ≡ Memory }
 {}
 
-/// Both encode a text to the same bytes, and neither refuses one that the other encodes.
+/// Both encode a text to the same bytes, and neither refuses one that the other encodes, but for
+/// want of memory.
 pub fn schemas_of_own_sets_encode_alike()
     ensures same { (s t : Schema) → IsGrown s → IsDetour s t
         → (name text a b : List ℕ) → Encoded s.pool name text a → Encoded t.pool name text b
         → a ≡ b }
     ensures first { (s t : Schema) → IsGrown s → IsDetour s t
-        → (name text out : List ℕ) (kind : ParseErrorKind)
-        → Encoded s.pool name text out → IsNoText t.pool name text kind → ⊥ }
+        → (name text out : List ℕ) (e : SchemaError)
+        → Encoded s.pool name text out → TextRefused t.pool name text e → e ≡ Memory }
     ensures second { (s t : Schema) → IsGrown s → IsDetour s t
-        → (name text out : List ℕ) (kind : ParseErrorKind)
-        → Encoded t.pool name text out → IsNoText s.pool name text kind → ⊥ }
+        → (name text out : List ℕ) (e : SchemaError)
+        → Encoded t.pool name text out → TextRefused s.pool name text e → e ≡ Memory }
 {}
 
-/// And both print the same text of bytes.
+/// And both print the same text of bytes, and neither refuses bytes that the other prints, but for
+/// want of memory.
 pub fn schemas_of_own_sets_decode_alike()
-    ensures { (s t : Schema) → IsGrown s → IsDetour s t
+    ensures same { (s t : Schema) → IsGrown s → IsDetour s t
         → (name bytes a b : List ℕ) → AreBytes bytes → Decoded s.pool name bytes a
         → Decoded t.pool name bytes b → a ≡ b }
+    ensures first { (s t : Schema) → IsGrown s → IsDetour s t
+        → (name bytes text : List ℕ) (e : SchemaError) → AreBytes bytes
+        → Decoded s.pool name bytes text → BytesRefused t.pool name bytes e → e ≡ Memory }
+    ensures second { (s t : Schema) → IsGrown s → IsDetour s t
+        → (name bytes text : List ℕ) (e : SchemaError) → AreBytes bytes
+        → Decoded t.pool name bytes text → BytesRefused s.pool name bytes e → e ≡ Memory }
 {}

@@ -3,7 +3,7 @@
 //! calls promise where a schema `s` answers: that the bytes spell a message of the named type, that
 //! `text` is what is printed of it, and `out` what is written of it. `IsNoMessage s.pool name bytes
 //! e` is what they promise where they refuse bytes as a message of a known type.
-ghost use Rattle.std.specs.Prelude.{◌≡◌, ◌<◌, ◌^◌, ℕ, List, length, map};
+ghost use Rattle.std.specs.Prelude.{◌≡◌, ◌<◌, ◌^◌, ◌↔◌, ℕ, List, length, map};
 ghost use Rattle.protobuf_model.specs.Coded.{AreOlderThan, IsAccepted, IsRecoded, Mean};
 ghost use Rattle.protobuf_model.specs.Older.{IsOlder};
 ghost use Rattle.protobuf_model.specs.Values.{Message};
@@ -13,7 +13,9 @@ ghost use Rattle.reflect_wire.specs.declared.wire_error.WireError.{WireError};
 ghost use Rattle.message_view.specs.Sound.{IsSound};
 ghost use Rattle.message_view.specs.Types.{types_of};
 ghost use Rattle.schema_core.specs.Payloads.{Decoded, Recoded};
-ghost use Rattle.schema_core.specs.Refusals.{IsNoMessage};
+ghost use Rattle.schema_core.specs.Refusals.{BytesRefused, IsKnown, IsNoMessage};
+ghost use Rattle.schema_core.specs.declared.error.SchemaError.{SchemaError};
+ghost use Rattle.schema_core.specs.declared.error.SchemaError.TheVariants.{Memory};
 ghost use Rattle.schema_core.specs.declared.schema.Schema.{Schema};
 ghost use Rattle.schema_laws.specs.Schemas.{RecodedThrough, SchemaType, type_of};
 
@@ -58,7 +60,8 @@ pub fn recoded_bytes_stay()
         → again ≡ out }
 {}
 
-/// An older schema refuses no bytes, as a message of its type, that a newer one decodes or recodes.
+/// An older schema refuses no bytes, as a message of its type, that a newer one decodes or recodes;
+/// and where it has the type, it refuses what the newer type accepts for want of memory alone.
 pub fn older_schemas_take_what_newer_ones_take()
     ensures decoded { (old new : SchemaType)
         → IsOlder (types_of old.0.pool) (without_dot old.1)
@@ -70,6 +73,12 @@ pub fn older_schemas_take_what_newer_ones_take()
         (types_of new.0.pool) (without_dot new.1)
         → (bytes out : List ℕ) → AreBytes bytes → Recoded new.0.pool new.1 bytes out
         → (e : WireError) → IsNoMessage old.0.pool old.1 bytes e → ⊥ }
+    ensures known { (old new : SchemaType)
+        → IsOlder (types_of old.0.pool) (without_dot old.1)
+        (types_of new.0.pool) (without_dot new.1)
+        → IsKnown old.0.pool old.1
+        → (bytes : List ℕ) → IsAccepted (types_of new.0.pool) (without_dot new.1) bytes
+        → (e : SchemaError) → BytesRefused old.0.pool old.1 bytes e → e ≡ Memory }
 {}
 
 /// What an older schema recodes means to the newer what the bytes do.
@@ -83,6 +92,29 @@ pub fn bytes_pass_through_an_older_schema()
         → Mean (types_of new.0.pool) (without_dot new.1) out m }
 {}
 
+/// So what an older schema recodes the newer refuses for want of memory alone, if it prints or
+/// recodes the bytes themselves, and it prints the same text of both.
+pub fn older_schemas_change_no_printed_text()
+    ensures same { (old new : SchemaType)
+        → IsOlder (types_of old.0.pool) (without_dot old.1)
+        (types_of new.0.pool) (without_dot new.1)
+        → (bytes out : List ℕ) → AreBytes bytes → Recoded old.0.pool old.1 bytes out
+        → length out < 2 ^ 64 → (a b : List ℕ) → AreBytes out
+        → Decoded new.0.pool new.1 bytes a → Decoded new.0.pool new.1 out b → a ≡ b }
+    ensures printed { (old new : SchemaType)
+        → IsOlder (types_of old.0.pool) (without_dot old.1)
+        (types_of new.0.pool) (without_dot new.1)
+        → (bytes out : List ℕ) → AreBytes bytes → Recoded old.0.pool old.1 bytes out
+        → length out < 2 ^ 64 → (text : List ℕ) → Decoded new.0.pool new.1 bytes text
+        → (e : SchemaError) → BytesRefused new.0.pool new.1 out e → e ≡ Memory }
+    ensures recoded { (old new : SchemaType)
+        → IsOlder (types_of old.0.pool) (without_dot old.1)
+        (types_of new.0.pool) (without_dot new.1)
+        → (bytes out : List ℕ) → AreBytes bytes → Recoded old.0.pool old.1 bytes out
+        → length out < 2 ^ 64 → (direct : List ℕ) → Recoded new.0.pool new.1 bytes direct
+        → (e : SchemaError) → BytesRefused new.0.pool new.1 out e → e ≡ Memory }
+{}
+
 /// Behind any chain of schemas whose types are older than the newest's, the newest recodes to what
 /// it recodes the bytes themselves to.
 pub fn chains_of_schemas_have_one_normal_form()
@@ -90,4 +122,17 @@ pub fn chains_of_schemas_have_one_normal_form()
         → AreOlderThan (types_of new.0.pool) (without_dot new.1) (map type_of ss)
         → (bytes out x y : List ℕ) → AreBytes bytes → RecodedThrough ss bytes out
         → Recoded new.0.pool new.1 out x → Recoded new.0.pool new.1 bytes y → x ≡ y }
+{}
+
+/// What it so recodes of two lists of bytes, behind whatever chains, is equal exactly where these
+/// mean the same to it.
+pub fn normal_forms_are_equal_where_meanings_are()
+    ensures { (new : SchemaType) (ss ts : List SchemaType)
+        → AreOlderThan (types_of new.0.pool) (without_dot new.1) (map type_of ss)
+        → AreOlderThan (types_of new.0.pool) (without_dot new.1) (map type_of ts)
+        → (a b x y p q : List ℕ) → AreBytes a → AreBytes b → RecodedThrough ss a x
+        → RecodedThrough ts b y → Recoded new.0.pool new.1 x p → Recoded new.0.pool new.1 y q
+        → length p < 2 ^ 64 → length q < 2 ^ 64 → (m n : Message)
+        → Mean (types_of new.0.pool) (without_dot new.1) a m
+        → Mean (types_of new.0.pool) (without_dot new.1) b n → (p ≡ q) ↔ (m ≡ n) }
 {}

@@ -7,11 +7,12 @@ ghost use Rattle.protobuf_model.specs.Values.{Message};
 ghost use Rattle.reflect_pool.specs.Dots.{without_dot};
 ghost use Rattle.reflect_pool.specs.Linked.{empty_pool};
 ghost use Rattle.reflect_wire.specs.Written.{AreBytes};
-ghost use Rattle.text_error.specs.declared.error.ParseErrorKind.{ParseErrorKind};
 ghost use Rattle.text_view.specs.Schemas.{schema_of};
 ghost use Rattle.linked_names.specs.SourcePools.{IsSourcePool};
 ghost use Rattle.schema_core.specs.Payloads.{Decoded, Encoded};
-ghost use Rattle.schema_core.specs.Refusals.{IsNoText, SourcesLinked, descriptor_name};
+ghost use Rattle.schema_core.specs.Refusals.{SourcesLinked, TextRefused, descriptor_name};
+ghost use Rattle.schema_core.specs.declared.error.SchemaError.{SchemaError};
+ghost use Rattle.schema_core.specs.declared.error.SchemaError.TheVariants.{Memory};
 ghost use Rattle.schema_core.specs.declared.schema.Schema.{Schema};
 ghost use Rattle.schema_laws.specs.Reprints.{IsShallow};
 
@@ -29,8 +30,8 @@ pub fn added_sources_keep_source_names()
         → IsSourcePool new.pool }
 {}
 
-/// So what such a schema prints of what it encoded is taken and encodes to the same bytes, where no
-/// more than 100 braces are open in it at once.
+/// So what such a schema prints of what it encoded is refused for want of memory alone, and encodes
+/// to the same bytes, where no more than 100 braces are open in it at once.
 pub fn schemas_of_sources_read_what_they_print()
     ensures same { (s : Schema) (decoded : Name → List ℕ → Option Message)
         → IsSourcePool s.pool → (name text out reprint again : List ℕ) → AreBytes text
@@ -41,5 +42,5 @@ pub fn schemas_of_sources_read_what_they_print()
         → IsSourcePool s.pool → (name text out reprint : List ℕ) → AreBytes text
         → Encoded s.pool name text out → length out < 2 ^ 64 → Decoded s.pool name out reprint
         → IsShallow (schema_of s.pool decoded) (without_dot name) text
-        → (kind : ParseErrorKind) → IsNoText s.pool name reprint kind → ⊥ }
+        → (e : SchemaError) → TextRefused s.pool name reprint e → e ≡ Memory }
 {}

@@ -21,7 +21,9 @@ ghost use Rattle.text_view.specs.Schemas.{schema_of};
 ghost use Rattle.text_view.specs.SourceNames.{HasSourceNames};
 ghost use Rattle.print_view.specs.Forms.{own_form};
 ghost use Rattle.schema_core.specs.Payloads.{Decoded, Encoded, Recoded};
-ghost use Rattle.schema_core.specs.Refusals.{IsNoText};
+ghost use Rattle.schema_core.specs.Refusals.{IsNoText, TextRefused};
+ghost use Rattle.schema_core.specs.declared.error.SchemaError.{SchemaError};
+ghost use Rattle.schema_core.specs.declared.error.SchemaError.TheVariants.{Memory};
 ghost use Rattle.schema_core.specs.declared.schema.Schema.{Schema};
 ghost use Rattle.schema_laws.specs.Reprints.{IsShallow};
 
@@ -67,7 +69,7 @@ pub fn printed_texts_encode_to_the_recoded_bytes()
         → Encoded s.pool name text again → again ≡ out }
 {}
 
-/// And it is not refused as a text of the type.
+/// And it is refused for want of memory alone.
 pub fn printed_texts_are_taken()
     ensures { (s : Schema) (decoded : Name → List ℕ → Option Message)
         → HasSourceNames s.pool → (name bytes text : List ℕ) → AreBytes bytes
@@ -75,7 +77,7 @@ pub fn printed_texts_are_taken()
         → (m : Message) → Mean (types_of s.pool) (without_dot name) bytes m
         → IsPlain (types_of s.pool) (without_dot name) m
         → open_braces (printed own_form (schema_of s.pool decoded) (without_dot name) m) ≤ 100
-        → (kind : ParseErrorKind) → IsNoText s.pool name text kind → ⊥ }
+        → (e : SchemaError) → TextRefused s.pool name text e → e ≡ Memory }
 {}
 
 /// What a schema encodes, its type accepts, and it means the message that the text gives, where it
@@ -88,8 +90,8 @@ pub fn encoded_bytes_are_accepted()
 {}
 
 /// Where names are spelled as in sources, what a schema prints of the bytes that it encoded a text
-/// to encodes to these bytes again, and is not refused, if no more than 100 braces are open in it at
-/// once.
+/// to encodes to these bytes again, and is refused for want of memory alone, if no more than 100
+/// braces are open in it at once.
 pub fn reprinted_texts_encode_to_the_same_bytes()
     ensures same { (s : Schema) (decoded : Name → List ℕ → Option Message)
         → HasSourceNames s.pool → (name text out reprint again : List ℕ) → AreBytes text
@@ -100,5 +102,5 @@ pub fn reprinted_texts_encode_to_the_same_bytes()
         → HasSourceNames s.pool → (name text out reprint : List ℕ) → AreBytes text
         → Encoded s.pool name text out → length out < 2 ^ 64 → Decoded s.pool name out reprint
         → IsShallow (schema_of s.pool decoded) (without_dot name) text
-        → (kind : ParseErrorKind) → IsNoText s.pool name reprint kind → ⊥ }
+        → (e : SchemaError) → TextRefused s.pool name reprint e → e ≡ Memory }
 {}

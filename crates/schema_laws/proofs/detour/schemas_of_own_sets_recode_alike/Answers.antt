@@ -1,6 +1,8 @@
 use Rattle.std.proofs.Common.{sym}
-use Rattle.schema_laws.proofs.OwnSchemas.{same_types}
-use Rattle.schema_laws.proofs.Recoding.{accepted_alike, recoded_alike}
+use Rattle.schema_laws.proofs.OwnSchemas.{same_names, same_types}
+use Rattle.schema_laws.proofs.Recoding.{recoded_alike}
+use Rattle.schema_laws.proofs.Refusing.{recoded_taken}
+use Rattle.schema_laws.proofs.TextsAlike.{no_message}
 use Rattle.schema_laws.proofs.detour.schemas_of_own_sets_recode_alike.Goals as goal
 
 pub returns-clause-same : goal.returns-clause-same
@@ -9,8 +11,8 @@ returns-clause-same c = λ s t is detour.
 
 pub returns-clause-first : goal.returns-clause-first
 returns-clause-first c = λ s t is detour.
-    accepted_alike s.pool t.pool s.sound t.sound (sym (same_types s t is detour))
+    recoded_taken s.pool t.pool s.sound t.sound (sym (same_names s t is detour no_message))
 
 pub returns-clause-second : goal.returns-clause-second
 returns-clause-second c = λ s t is detour.
-    accepted_alike t.pool s.pool t.sound s.sound (same_types s t is detour)
+    recoded_taken t.pool s.pool t.sound s.sound (same_names s t is detour no_message)
