@@ -1,5 +1,5 @@
 -- What is put, or unset, in a message in which all that is of bytes is bytes leaves it so.
-use Rattle.std.proofs.Common.{◌≡◌, ◌≢◌, ◌⊎◌, inl, inr, ℕ, Bool, true, false, cond, Option, Some, refl, sym, ap, ◌∙◌, subst}
+use Rattle.std.proofs.Common.{◌≡◌, ◌≢◌, ◌⊎◌, inl, inr, ℕ, Bool, true, false, cond, Option, Some, refl, ap, ◌∙◌, subst}
 use Rattle.std.proofs.lemmas.Bool.Decides.{eqb_tells}
 use Rattle.protobuf_model.specs.Types.{Field, rival}
 use Rattle.protobuf_model.specs.Values.{Content, Held, Message, Single, absent, content, message}

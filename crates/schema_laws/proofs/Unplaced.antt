@@ -9,11 +9,11 @@ use Rattle.std.proofs.lemmas.Slice.Eq.{bytes_eq-Decides}
 use Rattle.descriptor_records.specs.Content.{Text, FileContent}
 use Rattle.schema_view.specs.Files.{file_name, imports_of, is_proto3}
 use Rattle.schema_view.specs.Declarations.{Body, Declaration, declarations}
-use Rattle.schema_view.specs.References.{Reference, linked, references}
+use Rattle.schema_view.specs.References.{linked, references}
 use Rattle.schema_view.specs.Outlines.{AreApart, IsNamed, Outline, outline_of}
 use Rattle.schema_view.specs.Means.{ReferenceMeans}
 use Rattle.schema_view.specs.Rules.{IsSound}
-use Rattle.schema_view.specs.Lawful.{AddsLawful, AreSettled, Builds, IsFile, IsLawful, IsSettled, Key, Meanings, SameFiles, all_linked, has_key, is_use, outlines, sources, times_by}
+use Rattle.schema_view.specs.Lawful.{AddsLawful, AreSettled, Builds, IsFile, IsLawful, IsSettled, Meanings, SameFiles, all_linked, has_key, is_use, outlines, sources, times_by}
 use Rattle.schema_view.specs.Plain.{IsPlainFile}
 use Rattle.schema_view.specs.Views.{declared_at, extension_at, file_at, first, view_of, when}
 use Rattle.schema_view.proofs.Batches.{same_view}

@@ -19,7 +19,7 @@ use Rattle.protobuf_model.specs.Scalars.{same}
 use Rattle.protobuf_model.specs.Values.{Content, absent, chain_of, content, list, list_of, single}
 use Rattle.reflect_format.specs.Steps as steps
 use Rattle.reflect_format.specs.Steps.{held_by}
-use Rattle.reflect_format.specs.Takes.{holds_many, target_pool, target_type}
+use Rattle.reflect_format.specs.Takes.{holds_many, target_type}
 use Rattle.reflect_format.specs.declared.target.Target.{Target}
 use Rattle.reflect_message.specs.Bytes as bytes
 use Rattle.reflect_message.specs.Known.{is_float}

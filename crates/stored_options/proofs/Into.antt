@@ -11,11 +11,11 @@ use Rattle.protobuf_model.specs.Meaning.{message_in}
 use Rattle.protobuf_model.specs.Types.{Field, Part, nested, one, rival}
 use Rattle.protobuf_model.specs.Values.{Held, Message, absent, content, message, nothing}
 use Rattle.reflect_format.specs.Steps.{Puts, held_by, is_set}
-use Rattle.reflect_format.specs.Takes.{holds_many, target_pool, target_type}
+use Rattle.reflect_format.specs.Takes.{target_pool, target_type}
 use Rattle.reflect_format.specs.declared.target.Target.{Target}
 use Rattle.reflect_message.specs.Contents as contents
 use Rattle.reflect_message.specs.Contents.{content_of}
-use Rattle.reflect_message.specs.Names.{DynamicMessage, Value}
+use Rattle.reflect_message.specs.Names.{DynamicMessage}
 use Rattle.reflect_message.specs.declared.value.ValueOf.TheVariants as held
 use Rattle.reflect_pool.specs.Kinds.{IsKind}
 use Rattle.reflect_pool.specs.Shapes.{holds_list, holds_map}

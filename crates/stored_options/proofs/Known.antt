@@ -10,10 +10,10 @@ use Rattle.stored_options.specs.SetOptions.{Gets, Leads, Says, SetsAll, SetsLast
 use Rattle.option_setter.specs.OptionValues.{scalar_said}
 use Rattle.protobuf_model.specs.Meaning.{message_in}
 use Rattle.protobuf_model.specs.Types.{Name, Frame, Kind, scalar, nested, Part, Label, one, many, keyed, Field, Types}
-use Rattle.protobuf_model.specs.Values.{Content, single, message, list, dictionary, Held, content, records, Message, nothing}
+use Rattle.protobuf_model.specs.Values.{Content, single, message, list, dictionary, Held, content, records, Message}
 use Rattle.text_laws.proofs.Assigned.{field}
 use Rattle.text_model.specs.Schemas.{Schema, shape_of}
-use Rattle.text_model.specs.Value.{assign, default_of, of_message, settled, value_of, wanted_in, wanted_of}
+use Rattle.text_model.specs.Value.{default_of, of_message, settled, value_of, wanted_in, wanted_of}
 
 -- the value of an entry, or its default
 value_known : (types : Types) (part : Part) (o : Option ℕ) (e : Bool) (h : Held) → KnowsHeld types (Some (field part one o e)) h → KnowsContent types part.kind (value_of part h)

@@ -5,7 +5,6 @@ use Rattle.descriptor_records.specs.Content.{NameContent, OptionContent}
 use Rattle.protobuf_model.specs.Meaning.{message_in}
 use Rattle.protobuf_model.specs.Types.{Name, Frame, Kind, nested, Label, one, many, keyed, Field}
 use Rattle.protobuf_model.specs.Values.{Content, message, content, Message, nothing}
-use Rattle.protox_lex.specs.Class.{Text}
 use Rattle.text_model.specs.Schemas.{Schema}
 use Rattle.text_model.specs.Texts.{IsText}
 use Rattle.text_model.specs.Value.{Wanted, of_scalar, of_message, assign, wanted_of}

@@ -5,7 +5,7 @@ use Rattle.std.specs.Str.{bytes_eq}
 use mathlib.Core.Path.{fun_ext}
 use Rattle.descriptor_records.specs.Content.{OptionContent}
 use Rattle.message_view.specs.Sound.{IsSound}
-use Rattle.message_view.specs.Types.{kind_in, name_at, place_in}
+use Rattle.message_view.specs.Types.{kind_in, name_at}
 use Rattle.message_view.specs.Views.{content_view, view}
 use Rattle.message_view.proofs.Entries.{entry_of_map}
 use Rattle.message_view.proofs.Seen.{message_seen}

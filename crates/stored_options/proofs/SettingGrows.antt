@@ -7,9 +7,8 @@ use Rattle.texts_view.proofs.Adding.{add_all_same, assign_same}
 use Rattle.texts_view.proofs.Grown.{given_again}
 use Rattle.stored_options.specs.SetOptions.{Gets, Leads, Says, SetsAll, SetsLast, SetsParts}
 use Rattle.option_setter.specs.OptionValues.{scalar_said}
-use Rattle.protobuf_model.specs.Types.{Name, Frame, Kind, scalar, nested, Label, one, many, keyed, Field, oneof_of}
+use Rattle.protobuf_model.specs.Types.{Name, Kind, scalar, nested, Label, one, many, keyed, Field, oneof_of}
 use Rattle.protobuf_model.specs.Values.{Content, single, message, content, Message}
-use Rattle.protox_lex.specs.Class.{Text}
 use Rattle.text_model.specs.Schemas.{Schema, shape_of}
 use Rattle.text_model.specs.Value.{of_message, settled, wanted_in, wanted_of}
 

@@ -1,8 +1,8 @@
 -- A number that no name leads to first holds nothing behind options, if it held nothing before.
-use Rattle.std.proofs.Common.{◌≡◌, ℕ, ℤ, zero, suc, ◌==◌, Bool, true, false, cond, List, [], ◌∷◌, ◌++◌, Option, Some, unwrap_or, refl, sym, ap, ◌∙◌, subst}
+use Rattle.std.proofs.Common.{◌≡◌, ℕ, ℤ, zero, suc, ◌==◌, Bool, true, false, cond, List, [], ◌∷◌, ◌++◌, Option, unwrap_or, refl, sym, ap, ◌∙◌, subst}
 use Rattle.std.specs.List.{AllByRecursion}
 use Rattle.descriptor_records.specs.Content.{NameContent, OptionContent}
-use Rattle.stored_options.specs.SetOptions.{Gets, Leads, SetsAll, SetsLast, SetsParts}
+use Rattle.stored_options.specs.SetOptions.{Gets, Leads, SetsAll, SetsParts}
 use Rattle.protobuf_model.specs.Types.{Field, Label, Name, keyed, many, one, rival}
 use Rattle.protobuf_model.specs.Values.{Content, Held, Message, absent, content, message}
 use Rattle.protobuf_model.specs.Meaning.{if_any, if_some, items, pairs, put_all}
