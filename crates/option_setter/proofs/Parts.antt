@@ -8,13 +8,21 @@ use Rattle.reflect_format.specs.Steps.{Puts, StaysAscending, StaysExclusive}
 use Rattle.reflect_format.specs.declared.target.Target.{Target}
 use Rattle.reflect_message.specs.Names.{DynamicMessage}
 use Rattle.reflect_message.specs.declared.value.ValueOf.TheVariants as held
+use Rattle.reflect_pool.specs.declared.kind.Kind.{Kind}
 use Rattle.option_setter.specs.OptionNames.{LacksTarget, NamesTarget}
-use Rattle.option_setter.specs.SetOptions.{LeadsInto, LeadsNowhere, RefusesLast, RefusesParts, SetsLast, SetsParts, number_of}
+use Rattle.option_setter.specs.SetOptions.{LeadsInto, LeadsNowhere, MayTake, OfKind, RefusesLast, RefusesParts, RefusesValue, SetsLast, SetsParts, number_of}
 use Rattle.option_setter.specs.declared.option_setter.NameScope.{NameScope}
 
 pub empty : (xs : List NamePart) → length xs ≡ 0 → xs ≡ []
 empty [] e = refl
 empty (x ∷ xs) e = absurd (cc e)
+
+-- an option that says nothing to a target which may take a value
+pub refuses_last_value : (t : Target) (o : OptionContent) (m : DynamicMessage) → MayTake t m → (k : Kind) → OfKind t k
+    → (e : OptionErrorKind) → RefusesValue k o e → RefusesLast t o m e
+refuses_last_value t o m may k is (kinds.FloatOption name) h = absurd h
+refuses_last_value t o m may k is (kinds.DuplicateOption name) h = absurd h
+refuses_last_value t o m may k is e h = (may, (k, is, h))
 
 module _ (s : NameScope) (o : OptionContent) (part : NamePart) (m : DynamicMessage) (e : OptionErrorKind) where
   lacks_any : (levels : ℕ) (rest : List NamePart) → LacksTarget s m.descriptor part e → RefusesParts s o levels (part ∷ rest) m e

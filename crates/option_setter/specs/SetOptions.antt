@@ -68,12 +68,18 @@ RefusesValue k o (kinds.InvalidOptionType name) = SaysNothing k o faults.Unsuite
 RefusesValue k o (kinds.InvalidMessageOption name e) = SaysNothing k o (faults.Text e)
 RefusesValue k o _ = ⊥
 
--- why the last part is refused: it holds floating-point numbers, has a value
--- already, or the option says nothing to it
+-- the target may take a value: it holds no floating-point numbers, and none is set but in a list or
+-- a map
+abbrev pub MayTake : Target → DynamicMessage → Type 0
+MayTake t m = (HoldsFloats (target_pool t) (target_type t) → ⊥)
+    × (holds_many t ≡ false → is_set m t ≡ false)
+
+-- why the last part is refused: it holds floating-point numbers, or has a value already; where it
+-- may take one, the option says nothing to it
 abbrev pub RefusesLast : Target → OptionContent → DynamicMessage → OptionErrorKind → Type 0
 RefusesLast t o m (kinds.FloatOption name) = HoldsFloats (target_pool t) (target_type t)
 RefusesLast t o m (kinds.DuplicateOption name) = (holds_many t ≡ false) × (is_set m t ≡ true)
-RefusesLast t o m e = (k : Kind) × OfKind t k × RefusesValue k o e
+RefusesLast t o m e = MayTake t m × ((k : Kind) × OfKind t k × RefusesValue k o e)
 
 -- nothing stands under the number, and nothing else is changed
 abbrev pub Unsets : Target → DynamicMessage → DynamicMessage → Type 0

@@ -87,6 +87,14 @@ impl<'a, 'p> OptionSetter<'a, 'p> {
     /// Sets the option in a message of options, and gives the path of what it set there: the
     /// numbers of the fields, and behind that of a list the place of the element. An option without
     /// a name sets nothing.
+    ///
+    /// Refused at the first part of the name that leads to no field (`OptionNotFound`, or
+    /// `InvalidOptionExtendee` of an extension of another type), that is not the last and leads to
+    /// no single message (`InvalidOptionType`), or that lies too deep (`OptionTooDeep`). Of the last
+    /// part it is told first that it holds floating-point numbers (`FloatOption`) or has a value
+    /// already (`DuplicateOption`), and else that the option says nothing to its kind
+    /// (`InvalidOptionType`), or `InvalidMessageOption` with the first fault of the text in its
+    /// braces. `Memory` may come at any time. A refusal may leave the message changed.
     pub fn set(&self, message: &mut DynamicMessage<'p>) -> Result<Vec<i32>, OptionErrorKind>
         ensures type_stays { message.new.descriptor ≡ message.old.descriptor }
         ensures set { IfOk result (λ path. SetsParts self.now.scope

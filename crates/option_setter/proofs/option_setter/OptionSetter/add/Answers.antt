@@ -1,6 +1,10 @@
-use Rattle.std.proofs.Common.{rules, ◌≡◌, ◌++◌, ◌∷◌, [], ℤ, Vec, Global, if◌then◌else◌, refl, inr, sym, ap, ◌∙◌, append-nil, to_z, of_z, w32}
+use Rattle.std.proofs.Common.{rules, ◌≡◌, ◌++◌, ◌∷◌, [], ℤ, true, Vec, Global, if◌then◌else◌, refl, inr, sym, ap, ◌∙◌, append-nil, to_z, of_z, w32}
+use Rattle.std.proofs.lemmas.Result.{err_from_is_err_and}
+use Rattle.descriptor_records.specs.Content.{option_view}
 use Rattle.reflect_format.specs.Steps.{held_by}
-use Rattle.option_setter.specs.SetOptions.{count_held, next_place, place_of}
+use Rattle.option_setter.specs.SetOptions.{RefusesLast, RefusesValue, count_held, next_place, place_of}
+use Rattle.option_setter.proofs.Parts.{refuses_last_value}
+use Rattle.option_setter.proofs.Refusals.{unless_then}
 use Rattle.option_setter.proofs.option_setter.OptionSetter.add.Goals as goal
 use Rattle.option_setter.proofs.option_setter.OptionSetter.add.Goals.{then-is_list+in_ok-place+in_ok-push, else-is_list}
 
@@ -30,3 +34,16 @@ returns-clause-set c =
       },
       path,
     )
+
+-- src/option_setter.rt:248:5
+pub returns-in_err-value-clause-refused : goal.returns-in_err-value-clause-refused
+returns-in_err-value-clause-refused c =
+    let t = c.args.target in
+    let m = c.args.message.now in
+    let o = option_view c.args.self.now.option.now in
+    let k = c.kind.result in
+    let r = c.from_residual in
+    let p = err_from_is_err_and r.result r.ensures.1 in
+    rw (p.1, p.2) (unless_then (RefusesValue k o) (RefusesLast t o m)
+    (refuses_last_value t o m (c.requires.no_floats, λ one. absurd (cc (sym one ∙ c.requires.many))) k c.kind.ensures)
+    c.in_err-value.field-0.0 c.in_err-value.ensures.refused)
