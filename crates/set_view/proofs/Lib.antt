@@ -8,6 +8,7 @@ mod Listed
 mod Longer
 mod Mapped
 mod Numbered
+mod Owned
 mod Parts
 pub mod Suited
 mod Taken

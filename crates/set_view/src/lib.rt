@@ -7,4 +7,5 @@ pub mod lists;
 pub mod maps;
 pub mod meant;
 pub mod order;
+pub mod own;
 pub mod refused;
