@@ -14,3 +14,4 @@ pub mod Sizes
 pub mod WorkedFaults
 pub mod WorkedGaps
 pub mod WorkedPlaces
+pub mod WorkedRecords

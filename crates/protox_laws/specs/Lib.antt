@@ -4,4 +4,5 @@ pub mod WorkedFaults
 pub mod WorkedGaps
 pub mod WorkedLocations
 pub mod WorkedPlaces
+pub mod WorkedRecords
 pub mod WorkedSources

@@ -4,14 +4,24 @@
 //! What a text spells is defined by rules that read one token after another, as the code does.
 //! These sources pin, apart from that, what they read.
 
+ghost use Rattle.descriptor_records.specs.declared.field.FieldType.TheVariants as types;
+ghost use Rattle.protox_declaration_records.specs.EnumRecords.{enum_range_of};
+ghost use Rattle.protox_declaration_records.specs.OptionRecords.{with_int};
+ghost use Rattle.protox_field_records.specs.FieldRecords.{default_text, entry_name_of};
+ghost use Rattle.protox_field_records.specs.Places.{place_of};
 ghost use Rattle.protox_file.specs.Sources.{RefusedBy, Spells};
 ghost use Rattle.protox_laws.specs.WorkedFaults.{of_defaults, of_fields, of_numbers, of_other_fields};
 ghost use Rattle.protox_laws.specs.WorkedGaps.{gaps};
 ghost use Rattle.protox_laws.specs.WorkedPlaces.{HasPlaces, placed};
+ghost use Rattle.protox_laws.specs.WorkedRecords.{bare, entry_names, enum_ranges, int_defaults, int_options, list_places, message_ranges, odd_bytes, odd_text, of_type};
 ghost use Rattle.protox_laws.specs.WorkedSources.{at_fault, braces, in_option, messages, read, refused};
 ghost use Rattle.protox_locate.specs.Gap.{comments_in};
+ghost use Rattle.protox_message_records.specs.MessageRecords.{reserved_range_of};
 ghost use Rattle.protox_parse.specs.Answers.{AreAtFault};
 ghost use Rattle.protox_tree.specs.FileTree.{File};
+ghost use Rattle.protox_tree.specs.View.{strings_view};
+ghost use Rattle.protox_tree.specs.declared.option.OptionValue.TheVariants as values;
+ghost use Rattle.protox_tree.specs.declared.text.Strings.{Strings};
 ghost use Rattle.std.specs.List.{AllByRecursion};
 ghost use Rattle.std.specs.Prelude.{◌≡◌};
 
@@ -46,6 +56,19 @@ pub fn worked_sources_have_all_their_faults()
 /// comments.
 pub fn worked_sources_have_their_places()
     ensures { AllByRecursion (λ e. HasPlaces e.0 e.1) placed }
+{}
+
+/// Worked parts of sources are in their records so: names of maps' entries, ranges of messages and of
+/// enums, integers and bytes as defaults, integers as options, and places in lists.
+pub fn worked_parts_of_records_are_as_written()
+    ensures entries { AllByRecursion (λ e. entry_name_of e.0 ≡ e.1) entry_names }
+    ensures ranges { AllByRecursion (λ e. reserved_range_of e.0 ≡ e.1) message_ranges }
+    ensures values { AllByRecursion (λ e. enum_range_of e.0 ≡ e.1) enum_ranges }
+    ensures defaults { AllByRecursion (λ e. default_text e.0 (values.Int e.1) ≡ e.2) int_defaults }
+    ensures bytes { (s : Strings) → strings_view s ≡ odd_bytes
+        → default_text (of_type types.Bytes) (values.String s) ≡ odd_text }
+    ensures options { AllByRecursion (λ e. with_int e.0 bare ≡ e.1) int_options }
+    ensures places { AllByRecursion (λ e. place_of e.0 ≡ e.1) list_places }
 {}
 
 /// Worked gaps between tokens have these comments: the one of the statement in front, those that
