@@ -14,7 +14,6 @@ use Rattle.protox_messages.specs.MessageGrammar.{group_with, field_with, message
 use Rattle.protox_file.specs.FileGrammar.{syntax_behind, syntax, import_kind, an_import, a_package, file_item, file_items, file}
 use Rattle.descriptor_records.specs.Content.{LocationContent}
 use Rattle.memchr.specs.Find.{places_from}
-use Rattle.protox_file.specs.Sources.{Spells}
 use Rattle.protox_laws.proofs.WorkedGaps.{IsText, one, three}
 use Rattle.protox_laws.proofs.WorkedSources.{spells, tokens_of}
 use Rattle.protox_laws.specs.WorkedLocations.{comment_places, file_places}
