@@ -1,5 +1,5 @@
 -- What is found of a type says whether options can be read by it.
-use Rattle.std.proofs.Common.{◌≡◌, ◌⊎◌, inl, inr, ℕ, ◌<◌, ◌≤◌, ◌+◌, ◌==◌, ◌&&◌, ◌||◌, slice_index_or, is_some, Result, Ok, Err, Bool, true, false, List, [], ◌∷◌, Option, Some, None, refl, sym, ap, ◌∙◌, subst, map, nat_lt, arith}
+use Rattle.std.proofs.Common.{◌≡◌, ◌⊎◌, inl, inr, ℕ, ◌<◌, ◌≤◌, ◌+◌, ◌==◌, ◌&&◌, ◌||◌, is_some, Result, Ok, Err, Bool, true, false, List, ◌∷◌, Option, Some, None, refl, sym, ap, ◌∙◌, subst, map, nat_lt, arith}
 use Rattle.std.specs.Bool.{Decides}
 use Rattle.std.specs.Option.{IfSome, IfNone}
 use Rattle.std.specs.Result.{IfOk}
@@ -16,7 +16,7 @@ use Rattle.reflect_pool.specs.Records.{message_along}
 use Rattle.reflect_link.specs.Lent.{IsMessageOf}
 use Rattle.reflect_link.specs.Reserved.{extension_bounds}
 use Rattle.reflect_message.specs.Known.{numbered_field}
-use Rattle.option_parts.specs.OptionTypes.{HasField, KeepsExtensions, is_custom, type_name, IsNamedType, IsOptionType, CanRead, ReadsOptions, TellsType}
+use Rattle.option_parts.specs.OptionTypes.{HasField, HoldsBefore, KeepsExtensions, is_custom, type_name, IsNamedType, IsOptionType, IsThere, CanRead, ReadsOptions, TellsRequired, TellsType, scope_at}
 use Rattle.option_parts.specs.declared.option_error.OptionErrorKind.{OptionErrorKind}
 use Rattle.option_parts.specs.declared.option_scope.OptionScope.{OptionScope}
 use Rattle.option_parts.specs.declared.option_scope.OptionScope.TheVariants as each
@@ -65,30 +65,22 @@ other_passed start end rest h = ap (λ b. b || list_any is_custom rest) (other h
     by true e = absurd (h (grind (arith, e)))
     by false e = ap (λ b. b && (end == 536870912)) e
 
--- the scopes, as they are gone through
-abbrev pub scopes : List OptionScope
-scopes = each.File ∷ each.Message ∷ each.Field ∷ each.Oneof ∷ each.Enum ∷ each.EnumValue
-    ∷ each.Service ∷ each.Method ∷ each.ExtensionRange ∷ []
-
-abbrev pub AllBefore : (OptionScope → Type 0) → ℕ → Type 0
-AllBefore P n = (i : ℕ) → i < n → P (slice_index_or scopes i each.File)
-
-pub one_more : (P : OptionScope → Type 0) (n : ℕ) → AllBefore P n → P (slice_index_or scopes n each.File) → AllBefore P (n + 1)
+pub one_more : (P : OptionScope → Type 0) (n : ℕ) → HoldsBefore P n → P (scope_at n) → HoldsBefore P (n + 1)
 one_more P n before here i lt = by (nat_lt i n) refl where
-  by : (b : Bool) → nat_lt i n ≡ b → P (slice_index_or scopes i each.File)
+  by : (b : Bool) → nat_lt i n ≡ b → P (scope_at i)
   by true e = before i (grind (arith, e))
-  by false e = subst (λ k. P (slice_index_or scopes k each.File)) (grind (arith, e, lt)) here
+  by false e = subst (λ k. P (scope_at k)) (grind (arith, e, lt)) here
 
-pub all_scopes : (P : OptionScope → Type 0) (n : ℕ) → 9 ≤ n → AllBefore P n → (s : OptionScope) → P s
-all_scopes P n le all each.File = all 0 (omega (arith, le))
-all_scopes P n le all each.Message = all 1 (omega (arith, le))
-all_scopes P n le all each.Field = all 2 (omega (arith, le))
-all_scopes P n le all each.Oneof = all 3 (omega (arith, le))
-all_scopes P n le all each.Enum = all 4 (omega (arith, le))
-all_scopes P n le all each.EnumValue = all 5 (omega (arith, le))
-all_scopes P n le all each.Service = all 6 (omega (arith, le))
-all_scopes P n le all each.Method = all 7 (omega (arith, le))
-all_scopes P n le all each.ExtensionRange = all 8 (omega (arith, le))
+pub every_scope : (P : OptionScope → Type 0) (n : ℕ) → 9 ≤ n → HoldsBefore P n → (s : OptionScope) → P s
+every_scope P n le all each.File = all 0 (omega (arith, le))
+every_scope P n le all each.Message = all 1 (omega (arith, le))
+every_scope P n le all each.Field = all 2 (omega (arith, le))
+every_scope P n le all each.Oneof = all 3 (omega (arith, le))
+every_scope P n le all each.Enum = all 4 (omega (arith, le))
+every_scope P n le all each.EnumValue = all 5 (omega (arith, le))
+every_scope P n le all each.Service = all 6 (omega (arith, le))
+every_scope P n le all each.Method = all 7 (omega (arith, le))
+every_scope P n le all each.ExtensionRange = all 8 (omega (arith, le))
 
 -- the names have no dot before them
 no_dot : (s : OptionScope) → without_dot (type_name s) ≡ type_name s
@@ -117,8 +109,8 @@ module _ (pool : PoolType) (s : OptionScope) (name : List ℕ) (is : name ≡ ty
     pub none_can_read : CanRead pool s
     none_can_read m h = absurd (never m h)
 
-    pub none_reads : ReadsOptions pool s → ⊥
-    none_reads r = never r.0 r.1
+    pub none_there : IsThere pool s → ⊥
+    none_there t = never t.0 t.1
 
   -- this type has it
   module _ (i : ℕ) (first : IsFirst (λ m. m.full_name ≡ without_dot name) pool.messages (Some i)) where
@@ -130,17 +122,6 @@ module _ (pool : PoolType) (s : OptionScope) (name : List ℕ) (is : name ≡ ty
 
     one_named : IsNamedType pool s i
     one_named = named (Some i) first
-
--- what can be read by no type is read by none
-pub cannot_reads : (pool : PoolType) (s : OptionScope) → (CanRead pool s → ⊥) → ReadsOptions pool s → ⊥
-cannot_reads pool s bad r = bad (λ m h. subst (IsOptionType pool s) (one_first (λ (t : MessageType). t.full_name ≡ type_name s) pool.messages no_type r.0 m r.1 h) r.2)
-
--- what is told of the one is told of the other
-told_reads : (pool : PoolType) (kind : OptionErrorKind) → TellsType (CanRead pool) kind → TellsType (ReadsOptions pool) kind
-told_reads pool kind t = (t.0, t.1, cannot_reads pool t.0 t.2)
-
-abbrev pub IsThere : PoolType → OptionScope → Type 0
-IsThere pool s = (m : ℕ) × IsNamedType pool s m
 
 there_reads : (pool : PoolType) (s : OptionScope) → IsThere pool s → CanRead pool s → ReadsOptions pool s
 there_reads pool s t all = (t.0, t.1, all t.0 t.1)
@@ -163,9 +144,9 @@ module _ {E : Type 0} (pool : PoolType) (r : Result (Option OptionErrorKind) E) 
     by (Ok (Some kind)) h = tt
     by (Err e) h = tt
 
-  pub one_told : IfOk r (λ fault. IfSome fault (TellsType (CanRead pool))) → IfOk r (λ fault. IfSome fault (TellsType (ReadsOptions pool)))
-  one_told = by r where
-    by : (r : Result (Option OptionErrorKind) E) → IfOk r (λ fault. IfSome fault (TellsType (CanRead pool))) → IfOk r (λ fault. IfSome fault (TellsType (ReadsOptions pool)))
+  pub one_told : ((s : OptionScope) → IsThere pool s) → IfOk r (λ fault. IfSome fault (TellsType (CanRead pool))) → IfOk r (λ fault. IfSome fault (TellsRequired pool))
+  one_told all = by r where
+    by : (r : Result (Option OptionErrorKind) E) → IfOk r (λ fault. IfSome fault (TellsType (CanRead pool))) → IfOk r (λ fault. IfSome fault (TellsRequired pool))
     by (Ok None) h = tt
-    by (Ok (Some kind)) h = told_reads pool kind h
+    by (Ok (Some kind)) h = inr (all, h)
     by (Err e) h = tt

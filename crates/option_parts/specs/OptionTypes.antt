@@ -1,7 +1,7 @@
 -- What the type of a scope's options has, so that options can be read by it, as descriptor.proto
 -- declares it ("Custom Options"): a list of uninterpreted options, the numbers from 1000 on for
 -- extensions, and the option that linking reads itself.
-use Rattle.std.specs.Prelude.{◌≡◌, ◌==◌, ◌&&◌, ℕ, List, Bool, true, false, Option, None, Some, IfSome, codes, map, string_bytes}
+use Rattle.std.specs.Prelude.{◌≡◌, ◌<◌, ◌==◌, ◌&&◌, ◌⊎◌, ℕ, List, [], ◌∷◌, Bool, true, false, Option, None, Some, IfSome, codes, map, slice_index_or, string_bytes}
 use Rattle.std.specs.List.{list_any}
 use Rattle.descriptor_records.specs.declared.message.DescriptorProto.{DescriptorProto}
 use Rattle.descriptor_records.specs.declared.message.DescriptorProto.TheViews.{out-DescriptorProto}
@@ -90,7 +90,28 @@ abbrev pub TellsName : List ℕ → OptionErrorKind → Type 0
 TellsName name (BadDescriptorProto told) = string_bytes told ≡ name
 TellsName name _ = ⊥
 
--- it is the name of a scope's type, for which this does not hold
+-- the scopes, as they are gone through
+abbrev pub all_scopes : List OptionScope
+all_scopes = scopes.File ∷ scopes.Message ∷ scopes.Field ∷ scopes.Oneof ∷ scopes.Enum
+    ∷ scopes.EnumValue ∷ scopes.Service ∷ scopes.Method ∷ scopes.ExtensionRange ∷ []
+
+abbrev pub scope_at : ℕ → OptionScope
+scope_at n = slice_index_or all_scopes n scopes.File
+
+-- this holds for each scope before a place
+abbrev pub HoldsBefore : (OptionScope → Type 0) → ℕ → Type 0
+HoldsBefore Holds n = (i : ℕ) → i < n → Holds (scope_at i)
+
+-- it is the name of the first scope's type for which this does not hold
 abbrev pub TellsType : (OptionScope → Type 0) → OptionErrorKind → Type 0
-TellsType Holds kind = (scope : OptionScope) × TellsName (type_name scope) kind
-    × (Holds scope → ⊥)
+TellsType Holds kind = (n : ℕ) × TellsName (type_name (scope_at n)) kind
+    × (Holds (scope_at n) → ⊥) × HoldsBefore Holds n
+
+-- the pool has a type of the scope
+abbrev pub IsThere : PoolType → OptionScope → Type 0
+IsThere pool scope = (m : ℕ) × IsNamedType pool scope m
+
+-- of all nine it is the first that is missing, and where none is the first to read no options by
+abbrev pub TellsRequired : PoolType → OptionErrorKind → Type 0
+TellsRequired pool kind = TellsType (IsThere pool) kind
+    ⊎ (((scope : OptionScope) → IsThere pool scope) × TellsType (CanRead pool) kind)

@@ -3,7 +3,7 @@
 ghost use Rattle.std.specs.Prelude.{IfOk, IfSome, IfNone};
 ghost use Rattle.std.specs.Bool.{Decides};
 ghost use Rattle.reflect_tables.specs.Types.{type_of_field};
-ghost use Rattle.option_parts.specs.OptionTypes.{HasField, ListsMessages, IsTruthValue, KeepsExtensions, IsOptionType, CanRead, ReadsOptions, TellsName, TellsType};
+ghost use Rattle.option_parts.specs.OptionTypes.{HasField, ListsMessages, IsTruthValue, KeepsExtensions, IsOptionType, CanRead, ReadsOptions, TellsName, TellsRequired, TellsType};
 ghost use Rattle.option_parts.specs.OptionTypes as types;
 
 use crate::option_error::OptionErrorKind;
@@ -102,7 +102,8 @@ fn bad(alloc: Global, name: &str) -> Result<OptionErrorKind, AllocError>
 /// 1000 on for extensions; those of fields, enums and messages must have a singular truth value
 /// `packed` 2, `allow_alias` 2 and `map_entry` 7.
 ///
-/// What is told is a type that is not so, by its name. Refused for want of memory alone.
+/// What is told is the first type that is not so, by its name, in the order of `OptionScope::ALL`.
+/// Refused for want of memory alone.
 pub fn check_option_types(
     alloc: Global,
     pool: &DescriptorPool,
@@ -121,15 +122,16 @@ pub fn check_option_types(
     Ok(None)
 }
 
-/// What is wrong with the pool's types of options, where all nine must be there: one that is missing
-/// or is not as `check_option_types` asks. Refused for want of memory alone.
+/// What is wrong with the pool's types of options, where all nine must be there: the first that is
+/// missing, or, where none is, the first that is not as `check_option_types` asks. Refused for want
+/// of memory alone.
 pub fn require_option_types(
     alloc: Global,
     pool: &DescriptorPool,
 ) -> Result<Option<OptionErrorKind>, AllocError>
     ensures good { IfOk result (λ fault. IfNone fault ((scope : OptionScope)
         → ReadsOptions pool.now scope)) }
-    ensures told { IfOk result (λ fault. IfSome fault (TellsType (ReadsOptions pool.now))) }
+    ensures told { IfOk result (λ fault. IfSome fault (TellsRequired pool.now)) }
 {
     for scope in OptionScope::ALL {
         if pool.get_message_by_name(scope.type_name()).is_none() {

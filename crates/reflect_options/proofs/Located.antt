@@ -9,9 +9,11 @@ use Rattle.descriptor_records.specs.declared.file.FileDescriptorProto.{FileDescr
 use Rattle.reflect_names.specs.Faults.{Place}
 use Rattle.reflect_names.specs.Spans.{same_path, span_among, span_of}
 use Rattle.reflect_names.specs.declared.label.SourceSpan.{SourceSpan}
+use Rattle.option_parts.specs.OptionTypes.{CanRead}
 use Rattle.option_parts.specs.Places.{IsPlaceIn, StandsFrom}
 use Rattle.option_parts.specs.declared.option_error.OptionError.{OptionError}
 use Rattle.option_parts.specs.declared.option_error.OptionErrorKind.{OptionErrorKind}
+use Rattle.option_parts.specs.declared.option_scope.OptionScope.{OptionScope}
 use Rattle.reflect_growth.specs.declared.settle.Edit.{Edit}
 use Rattle.reflect_link.specs.declared.file.FileDescriptor.{FileDescriptor}
 use Rattle.reflect_tables.specs.Types.{PoolType}
@@ -58,8 +60,8 @@ settles_next pool first i front own new f from before at settles is =
     (front, own, f, before, subst (λ n. slice_get pool.records n ≡ Some f) e at, subst (λ n. SettlesFile pool n f own) e settles, is)
 
 -- the file at an index is refused, behind those before it
-pub refuses_next : (pool : PoolType) (first i : ℕ) (front : List Edit) (f : FileDescriptorProto) (place : Option Place) → first ≤ i → SettlesFiles pool first (i - first) front → slice_get pool.records i ≡ Some f → IfSome place (IsPlaceIn f) → (kind : OptionErrorKind) → (p : Place) × (place ≡ Some p) × RefusesFile pool i f p.path kind → RefusesFrom pool first place kind
-refuses_next pool first i front f place from before at stands kind (p, is, refuses) =
+pub refuses_next : (pool : PoolType) (first i : ℕ) (front : List Edit) (f : FileDescriptorProto) (place : Option Place) → first ≤ i → SettlesFiles pool first (i - first) front → slice_get pool.records i ≡ Some f → IfSome place (IsPlaceIn f) → ((scope : OptionScope) → CanRead pool scope) → (kind : OptionErrorKind) → (p : Place) × (place ≡ Some p) × RefusesFile pool i f p.path kind → RefusesFrom pool first place kind
+refuses_next pool first i front f place from before at stands readable kind (p, is, refuses) =
     let e = sym (back_at first i from) in
     subst (λ o. RefusesFrom pool first o kind) (sym is)
-    (i - first, front, f, before, subst (λ n. slice_get pool.records n ≡ Some f) e at, subst (λ n. RefusesFile pool n f p.path kind) e refuses, subst (λ o. IfSome o (IsPlaceIn f)) is stands)
+    (readable, (i - first, front, f, before, subst (λ n. slice_get pool.records n ≡ Some f) e at, subst (λ n. RefusesFile pool n f p.path kind) e refuses, subst (λ o. IfSome o (IsPlaceIn f)) is stands))

@@ -133,10 +133,11 @@ RefusesAtPlace pool first p e =
     × (slice_get pool.records (first + n) ≡ Some f) × RefusesFile pool (first + n) f p.path e
     × IsPlaceIn f p
 
--- a type of options is none to read options by, or options are refused
+-- a type of options is none to read options by; or all are, and options are refused
 abbrev pub RefusesFrom : PoolType → ℕ → Option Place → OptionErrorKind → Type 0
 RefusesFrom pool first None e = TellsType (CanRead pool) e
-RefusesFrom pool first (Some p) e = RefusesAtPlace pool first p e
+RefusesFrom pool first (Some p) e =
+    ((scope : OptionScope) → CanRead pool scope) × RefusesAtPlace pool first p e
 
 -- the options of the files from an index on are settled, and nothing else is changed in records
 pub record SettlesPool (old : PoolType) (first : ℕ) (new : PoolType) : Type 0 where

@@ -23,7 +23,7 @@ use Rattle.reflect_passes.specs.declared.error.DescriptorError.{DescriptorError}
 use Rattle.reflect_build.specs.Refusals.{AreRefused}
 use Rattle.reflect_bytes.specs.Spelled.{SpellsSet}
 use Rattle.reflect_bytes.proofs.Refused.{unspelled}
-use Rattle.option_parts.specs.OptionTypes.{ReadsOptions, TellsType}
+use Rattle.option_parts.specs.OptionTypes.{TellsRequired}
 use Rattle.option_parts.specs.Places.{option_place}
 use Rattle.option_parts.specs.TypedOptions.{TypedFiles}
 use Rattle.option_parts.specs.declared.option_error.OptionError.{OptionError}
@@ -124,9 +124,9 @@ refused_descriptor batch (Options e) refused = inl refused
 refused_descriptor batch e refused = refused
 
 -- a source that is added, and does not declare all that options are read by
-pub lacks_types : (batch : List (List ℕ × List ℕ)) (new : PoolType) (o : OptionError) (kind : OptionErrorKind) → o.kind ≡ kind → SourcesLinked empty_pool batch new → o.place ≡ None → TellsType (ReadsOptions new) kind → DescriptorRefused batch (of_options o kind)
+pub lacks_types : (batch : List (List ℕ × List ℕ)) (new : PoolType) (o : OptionError) (kind : OptionErrorKind) → o.kind ≡ kind → SourcesLinked empty_pool batch new → o.place ≡ None → TellsRequired new kind → DescriptorRefused batch (of_options o kind)
 lacks_types batch new o kinds.Memory is linked none told = tt
-lacks_types batch new o kind is linked none told = inr (new, linked, ap (option_map place_of) none, subst (TellsType (ReadsOptions new)) (sym is) told)
+lacks_types batch new o kind is linked none told = inr (new, linked, ap (option_map place_of) none, subst (TellsRequired new) (sym is) told)
 
 -- bytes that are read as no set spell none, and have the fault that is told
 no_set : (bytes : List ℕ) (e : WireError) → (e ≡ wire.Memory → ⊥) → Rejects IsSetBytes SetBytesFault bytes e → IsNoSet bytes e

@@ -31,7 +31,7 @@ use Rattle.schema_core.specs.Payloads.{IsType}
 use Rattle.text_error.specs.declared.error.ParseError as text
 use Rattle.text_error.specs.declared.error.ParseErrorKind.{ParseErrorKind}
 use Rattle.text_error.specs.declared.error.ParseErrorKind.TheVariants as texts
-use Rattle.option_parts.specs.OptionTypes.{ReadsOptions, TellsType}
+use Rattle.option_parts.specs.OptionTypes.{TellsRequired}
 use Rattle.option_parts.specs.Places.{option_place}
 use Rattle.option_parts.specs.TypedOptions.{TypedFiles}
 use Rattle.option_parts.specs.declared.option_error.OptionError.{OptionError}
@@ -181,7 +181,7 @@ SourcesRefused p sources _ = ⊥
 abbrev pub DescriptorRefused : List (List ℕ × List ℕ) → SchemaError → Type 0
 DescriptorRefused sources (Options e) = SourcesRefused empty_pool sources (Options e)
     ⊎ ((new : PoolType) × SourcesLinked empty_pool sources new × (option_place e ≡ None)
-    × TellsType (ReadsOptions new) e.kind)
+    × TellsRequired new e.kind)
 DescriptorRefused sources e = SourcesRefused empty_pool sources e
 
 -- bytes are those of a descriptor set whose files are added

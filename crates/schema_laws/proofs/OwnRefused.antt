@@ -8,7 +8,7 @@ use Rattle.linked_view.proofs.Together.{empty_built}
 use Rattle.message_view.specs.Sound.{IsSound}
 use Rattle.schema_laws.specs.StoredBytes.{StoresBytes}
 use Rattle.schema_laws.proofs.Stored.{files_stored}
-use Rattle.option_parts.specs.OptionTypes.{CanRead}
+use Rattle.option_parts.specs.OptionTypes.{CanRead, scope_at}
 use Rattle.option_parts.specs.Places.{option_place}
 use Rattle.option_parts.specs.TypedOptions.{TypedFiles}
 use Rattle.option_parts.specs.declared.option_error.OptionErrorKind.{OptionErrorKind}
@@ -109,8 +109,8 @@ module _ (s : Schema) (is : IsGrown s) (held : HoldsOptions s.pool) (short : len
         read_alike s.pool linked s.sound sound names (keep_alike s.pool linked typed own.told told faultless pool records) scope (own.reads scope)
 
     own_options : ArePlainFiles StoresBytes (map file_view s.pool.records) → (place : Option Place) (e : OptionErrorKind) → RefusesFrom linked 0 place e → ⊥
-    own_options bytes None e (scope, tells, cannot) = cannot (reads scope)
-    own_options bytes (Some place) e refuses =
+    own_options bytes None e (n, tells, cannot, before) = cannot (reads (scope_at n))
+    own_options bytes (Some place) e (readable, refuses) =
         not_refused own.batches s.pool linked files typed own.typed own.is.kept own.plain held own.alike bytes same copied faultless pool sound reads place e refuses
 
   -- ---- the whole

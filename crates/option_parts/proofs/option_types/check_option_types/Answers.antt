@@ -1,8 +1,6 @@
 use Rattle.std.proofs.Common.{subst, arith}
-use Rattle.std.specs.Prelude.{slice_index_or}
-use Rattle.option_parts.specs.declared.option_scope.OptionScope.TheVariants as each
-use Rattle.option_parts.specs.OptionTypes.{CanRead, IsOptionType, TellsName}
-use Rattle.option_parts.proofs.OptionTypes.{scopes, one_more, all_scopes, none_can_read, one_can_read, one_cannot, fails}
+use Rattle.option_parts.specs.OptionTypes.{CanRead, IsOptionType, TellsName, scope_at}
+use Rattle.option_parts.proofs.OptionTypes.{one_more, every_scope, none_can_read, one_can_read, one_cannot, fails}
 use Rattle.option_parts.proofs.option_types.check_option_types.Goals.{in-Some+else-not-is_good, in_default}
 use Rattle.option_parts.proofs.option_types.check_option_types.Goals as goal
 
@@ -13,9 +11,13 @@ pub returns-then-not-is_good-clause-told : goal.returns-then-not-is_good-clause-
 returns-then-not-is_good-clause-told c =
     let pool = c.args.pool.now in
     let d = c.in-Some.options in
-    let s = slice_index_or scopes c.loop-scope.scope-index each.File in
-    let bad = subst (λ p. IsOptionType p s d.index → ⊥) c.in-Some.ensures.pool (fails c.is_good.result c.is_good.ensures c.if-not-is_good.true) in
-    (s, subst (λ n. TellsName n c.in_ok-bad.field-0) c.type_name-then-not-is_good.ensures c.in_ok-bad.ensures, one_cannot pool s c.type_name.result.now c.type_name.ensures d.index c.in-Some.ensures.finds bad)
+    let s = scope_at c.loop-scope.scope-index in
+    let bad = subst (λ p. IsOptionType p s d.index → ⊥) c.in-Some.ensures.pool (fails c.is_good.result c.is_good.ensures c.if-not-is_good.true) in (
+      c.loop-scope.scope-index,
+      subst (λ n. TellsName n c.in_ok-bad.field-0) c.type_name-then-not-is_good.ensures c.in_ok-bad.ensures,
+      one_cannot pool s c.type_name.result.now c.type_name.ensures d.index c.in-Some.ensures.finds bad,
+      c.loop-scope.invariant,
+    )
 
 pub loop-scope-preserved : goal.loop-scope-preserved
 loop-scope-preserved c =
@@ -28,4 +30,4 @@ loop-scope-preserved c =
     ])
 
 pub returns-clause-good : goal.returns-clause-good
-returns-clause-good c = all_scopes (CanRead c.args.pool.now) c.loop-scope.scope-index (omega (arith, c.loop-scope-test.false)) c.loop-scope.invariant
+returns-clause-good c = every_scope (CanRead c.args.pool.now) c.loop-scope.scope-index (omega (arith, c.loop-scope-test.false)) c.loop-scope.invariant

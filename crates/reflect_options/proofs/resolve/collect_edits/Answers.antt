@@ -1,6 +1,8 @@
-use Rattle.std.proofs.Common.{◌≡◌, ◌∙◌, ◌++◌, ◌-◌, List, Some, IfSome, arith, length, subst, sym}
+use Rattle.std.proofs.Common.{rules, ◌≡◌, ◌∙◌, ◌++◌, ◌-◌, List, Some, IfSome, arith, length, subst, sym}
 use Rattle.reflect_growth.specs.declared.settle.Edit.{Edit}
+use Rattle.option_parts.specs.OptionTypes.{CanRead}
 use Rattle.option_parts.specs.Places.{option_place, StandsFrom}
+use Rattle.option_parts.specs.declared.option_scope.OptionScope.{OptionScope}
 use Rattle.option_setter.proofs.Refusals.{unless_then}
 use Rattle.option_setter.specs.OptionNames.{UnlessMemory}
 use Rattle.reflect_names.specs.Faults.{Place}
@@ -46,9 +48,10 @@ returns-in_err-collect_file-clause-refused c =
     let fault = c.in_err-collect_file.field-0.0 in
     let before = c.files.invariant in
     let from = c.files.auto.index in
+    let readable : (scope : OptionScope) → CanRead pool scope = search rules in
     let told = subst (λ p. UnlessMemory (λ kind. (place : Place) × (option_place fault ≡ Some place) × RefusesFile p i f place.path kind) fault.kind) before.pool c.in_err-collect_file.ensures.refused in
     passed c.from_residual-in_err-collect_file.result (λ e. UnlessMemory (RefusesFrom pool first (option_place e)) e.kind) fault c.from_residual-in_err-collect_file.ensures.1
-    (unless_then (λ kind. (place : Place) × (option_place fault ≡ Some place) × RefusesFile pool i f place.path kind) (RefusesFrom pool first (option_place fault)) (refuses_next pool first i c.files.visitor.edits.items f (option_place fault) from before.settled at c.in_err-collect_file.ensures.place) fault.kind told)
+    (unless_then (λ kind. (place : Place) × (option_place fault ≡ Some place) × RefusesFile pool i f place.path kind) (RefusesFrom pool first (option_place fault)) (refuses_next pool first i c.files.visitor.edits.items f (option_place fault) from before.settled at c.in_err-collect_file.ensures.place readable) fault.kind told)
 
 pub returns-clause-settled : goal.returns-clause-settled
 returns-clause-settled c =
