@@ -1,5 +1,6 @@
 pub mod SameFaults
 pub mod Sizes
+pub mod Unplaced
 pub mod WorkedFaults
 pub mod WorkedGaps
 pub mod WorkedLocations
