@@ -9,6 +9,8 @@ pub mod Messages
 pub mod Options
 pub mod Orders
 pub mod Sources
+pub mod Types
+pub mod Unplaced
 pub mod WorkedSources
 pub mod Sizes
 pub mod WorkedFaults

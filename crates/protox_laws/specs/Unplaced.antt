@@ -11,7 +11,7 @@ use Rattle.protox_tree.specs.Tree.{Word, plain, extension, scalar, named, word_v
 use Rattle.protox_tree.specs.declared.range.RangeEnd.{RangeEnd}
 use Rattle.protox_tree.specs.declared.range.RangeEnd.TheVariants as ends
 use Rattle.protox_tree.specs.declared.range.ReservedRange.{ReservedRange}
-use Rattle.std.specs.Prelude.{◌×◌, List, Option, map, option_map}
+use Rattle.std.specs.Prelude.{List, Option, map, option_map}
 
 -- the one place that all get
 abbrev pub nowhere : Span

@@ -1,12 +1,14 @@
 //! Laws of what sources are answered with, each the contract of a function that does nothing.
 //!
 //! `IsAnswered name z result` is what `parse` promises of a text `z` under a name, and speaks of a
-//! tree as it lies in memory. `file_view` is the tree without this memory.
+//! tree as it lies in memory. `file_view` is the tree without this memory, and `unplaced` of it the
+//! tree without its places.
 ghost use Rattle.descriptor_records.specs.Content as records;
 ghost use Rattle.descriptor_records.specs.Content.{FileContent, LocationContent};
 ghost use Rattle.descriptor_records.specs.declared.file.FileDescriptorProto.{FileDescriptorProto};
 ghost use Rattle.protox_laws.specs.SameFaults.{IsSameFault, ReadSame, TellSame};
 ghost use Rattle.protox_laws.specs.Sizes.{IsNoSize};
+ghost use Rattle.protox_laws.specs.Unplaced.{unplaced};
 ghost use Rattle.protox_lex.specs.Class.{Text};
 ghost use Rattle.protox_lex.specs.Lines.{feeds_of};
 ghost use Rattle.protox_locate.specs.Files.{AreLocations};
@@ -22,12 +24,15 @@ ghost use Rattle.protox_tree.specs.declared.file.File as trees;
 ghost use Rattle.std.specs.List.{AllByRecursion, AllZip};
 ghost use Rattle.std.specs.Prelude.{◌≡◌, Err, List, Ok};
 
-/// Trees that differ in their memory alone have the same records under a name, and one.
-pub fn one_view_has_one_record()
+/// Trees that differ only in memory and in where their words stand have the same records under a
+/// name, and one.
+pub fn trees_of_the_same_words_have_one_record()
     ensures same { (name : Text) (s t : trees.File) (made : FileContent)
-        → file_view s ≡ file_view t → IsFile name s made → IsFile name t made }
+        → unplaced (file_view s) ≡ unplaced (file_view t) → IsFile name s made
+        → IsFile name t made }
     ensures one { (name : Text) (s t : trees.File) (a b : FileContent)
-        → file_view s ≡ file_view t → IsFile name s a → IsFile name t b → a ≡ b }
+        → unplaced (file_view s) ≡ unplaced (file_view t) → IsFile name s a → IsFile name t b
+        → a ≡ b }
 {}
 
 /// A tree has one list of locations in a text.
