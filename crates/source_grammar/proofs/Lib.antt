@@ -10,5 +10,13 @@ pub mod NameLaws
 pub mod OptionLaws
 pub mod RangeLaws
 pub mod Rules
+pub mod SameTrees
 pub mod ServiceLaws
+pub mod Shown
+pub mod Stripped
+pub mod StrippedDeclarations
+pub mod StrippedFiles
+pub mod StrippedMessages
+pub mod StrippedOptions
+pub mod StrippedTexts
 pub mod Takes

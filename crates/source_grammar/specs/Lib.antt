@@ -8,4 +8,5 @@ pub mod Messages
 pub mod Names
 pub mod Options
 pub mod Ranges
+pub mod SameTokens
 pub mod Services

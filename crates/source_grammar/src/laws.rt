@@ -9,6 +9,7 @@ ghost use Rattle.protox_declarations.specs.ServiceGrammar.{service};
 ghost use Rattle.protox_fields.specs.FieldGrammar.{extensions, ty};
 ghost use Rattle.protox_file.specs.FileGrammar as files;
 ghost use Rattle.protox_file.specs.Sources.{Spells};
+ghost use Rattle.protox_laws.specs.Unplaced.{unplaced};
 ghost use Rattle.protox_lex.specs.Class.{Text};
 ghost use Rattle.protox_messages.specs.MessageGrammar as rules;
 ghost use Rattle.protox_messages.specs.MessageGrammar.{extend_with, message_with};
@@ -40,6 +41,7 @@ ghost use Rattle.source_grammar.specs.Options.{
   options,
 };
 ghost use Rattle.source_grammar.specs.Ranges.{NoEnd, a_range, a_reserved};
+ghost use Rattle.source_grammar.specs.SameTokens.{HaveSameTokens};
 ghost use Rattle.source_grammar.specs.Services.{a_service};
 ghost use Rattle.std.specs.Prelude.{◌≡◌, ◌↔◌, [], ℕ};
 
@@ -119,4 +121,11 @@ pub fn sources_are_read_as_they_are_spelled()
 /// Tokens are those of one tree at most: the grammar is not ambiguous.
 pub fn tokens_are_those_of_one_tree()
     ensures { (ts : Stream) (a b : File) → a_file a ts [] → a_file b ts [] → a ≡ b }
+{}
+
+/// Sources with the same tokens, whatever stands between them, spell the same trees, but for
+/// places.
+pub fn sources_of_the_same_tokens_spell_the_same()
+    ensures { (z w : Text) (t u : File) → HaveSameTokens z w → IsSpelledBy t z → IsSpelledBy u w
+        → unplaced t ≡ unplaced u }
 {}
