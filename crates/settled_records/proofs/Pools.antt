@@ -21,7 +21,7 @@ use Rattle.settled_records.proofs.Changes.{Change, change_of, changed, edits_els
 use Rattle.settled_records.proofs.Moved.{locations_alike, same_locations}
 use Rattle.settled_records.proofs.Placed.{all_elsewhere, file_edits, files_elsewhere}
 use Rattle.settled_records.proofs.Walk.{same_entities}
-use Rattle.settled_records.specs.Alike.{AllSettleAlike, IsSameEntity, SettleAlike}
+use Rattle.settled_records.specs.Alike.{AllSettleAlike, IsSameEntity, SettleAlike, unplaced}
 
 -- what settles an entity of a pool by its options
 abbrev By : PoolType → Entity → List Edit → List Move → Option Options → Type 0
@@ -56,7 +56,7 @@ module _ (p q : PoolType) where
             moves ∙ (λ i. moves_from (options i) 0 (r.1 i)) ∙ sym moved,
           )
 
-  entities_alike : (cs ds : List Entity) (es xs : List Edit) (ms ns : List Move) → AllZip IsSameEntity cs ds → AllZip (SettleAlike p q) cs ds → SettlesAll p cs es ms → SettlesAll q ds xs ns
+  pub entities_alike : (cs ds : List Entity) (es xs : List Edit) (ms ns : List Move) → AllZip IsSameEntity cs ds → AllZip (SettleAlike p q) cs ds → SettlesAll p cs es ms → SettlesAll q ds xs ns
       → Same es xs ms ns
   entities_alike [] [] es xs ms ns same agree (none, still) (nil, rest) = (ap (map change_of) (none ∙ sym nil), still ∙ sym rest)
   entities_alike [] (d ∷ ds) es xs ms ns same agree settles settled = absurd same
@@ -72,14 +72,14 @@ module _ (p q : PoolType) where
   file_alike : (i j : ℕ) (f g : FileDescriptorProto) (es ds : List Edit) → file_view f ≡ file_view g → AllSettleAlike p q i j f g → SettlesFile p i f es → SettlesFile q j g ds
       → map change_of es ≡ map change_of ds
   file_alike i j f g es ds same agree (options, moved, ms, settles, locates, is) (others, went, ns, settled, located, are) =
-      let first : Same options others ms ns = entities_alike (file_entities i f) (file_entities j g) options others ms ns (same_entities i j f g same) agree settles settled in
+      let first : Same options others ms ns = entities_alike (file_entities i f) (file_entities j g) options others ms ns (same_entities i j f g (ap unplaced same)) agree settles settled in
       let behind : map change_of moved ≡ map change_of went = locations_alike (target_in ns) i j 0 (locations f) (locations g) moved went (same_locations f g same)
       (subst (λ ts. EditsLocations (target_in ts) i 0 (locations f) moved) first.1 locates) located in
       ap (map change_of) is ∙ map-append change_of options moved ∙ (λ i. first.0 i ++ behind i) ∙ sym (map-append change_of others went) ∙ sym (ap (map change_of) are)
 
 -- ---- one of the files of a pool
 -- what the content of a file comes to by the edits that settle its options
-abbrev Comes : PoolType → ℕ → FileDescriptorProto → FileContent → List FileContent → Type 0
+abbrev pub Comes : PoolType → ℕ → FileDescriptorProto → FileContent → List FileContent → Type 0
 Comes pool i f x fs = (own : List Edit) × SettlesFile pool i f own × (slice_get fs i ≡ Some (changed x (map change_of own)))
 
 -- those of the files before it and behind it leave it
@@ -108,7 +108,7 @@ among pool first (suc n) i es f fs x (front, own, g, before, has, settles, is) f
 
 -- ---- the pools
 -- what the content of one of the files is once they are settled
-in_pool : (pool new : PoolType) (first i : ℕ) (f : FileDescriptorProto) → SettlesPool pool first new → first ≤ i → i < length pool.files → slice_get pool.records i ≡ Some f
+pub in_pool : (pool new : PoolType) (first i : ℕ) (f : FileDescriptorProto) → SettlesPool pool first new → first ≤ i → i < length pool.files → slice_get pool.records i ≡ Some f
     → Comes pool i f (file_view f) (map file_view new.records)
 in_pool pool new first i f settles far near found =
     let there : slice_get (map file_view pool.records) i ≡ Some (file_view f) = slice_get-map file_view pool.records i ∙ ap (option_map file_view) found in

@@ -23,7 +23,7 @@ use Rattle.reflect_scope.specs.Means.{join}
 use Rattle.linked_view.proofs.Walked.{tree_content, trees_content}
 use Rattle.settled_records.proofs.Entities.{types_are}
 use Rattle.settled_records.proofs.Told.{Told, all_told_same, enum_tells, extension_tells, field_tells, file_tells, message_tells, messages_tell, method_tells, named_service_tells, oneof_tells, package_tells, parts_tell, range_tells, service_tells, tells, text_in, told, value_tells}
-use Rattle.settled_records.specs.Alike.{IsSameEntity}
+use Rattle.settled_records.specs.Alike.{IsSameEntity, unplaced}
 
 -- what is told of the entities of declarations
 abbrev tell : List Declaration → List Told
@@ -124,6 +124,6 @@ file_told i f =
     ap (λ ts. tells scopes.File [] (pos 8) n (option_map options_view f.options) ∷ ts) (both _ _ _ _ types (both _ _ _ _ enums (both _ _ _ _ services others)))
     ∙ ap (λ s. package_tells s (file_view f)) (text_told f.package)
 
--- records of one content have the same
-pub same_entities : (i j : ℕ) (f g : FileDescriptorProto) → file_view f ≡ file_view g → AllZip IsSameEntity (file_entities i f) (file_entities j g)
+-- records of one content, but for lines, columns and comments, have the same
+pub same_entities : (i j : ℕ) (f g : FileDescriptorProto) → unplaced (file_view f) ≡ unplaced (file_view g) → AllZip IsSameEntity (file_entities i f) (file_entities j g)
 same_entities i j f g same = all_told_same (file_entities i f) (file_entities j g) (file_told i f ∙ ap file_tells same ∙ sym (file_told j g))

@@ -1,7 +1,7 @@
 -- Entities of one file in two pools, whose options settle alike.
-use Rattle.std.specs.Prelude.{◌≡◌, ℕ, ℤ, List, Some, option_map}
+use Rattle.std.specs.Prelude.{◌≡◌, ℕ, ℤ, List, None, Some, option_map}
 use Rattle.std.specs.List.{AllZip}
-use Rattle.descriptor_records.specs.Content.{options_view}
+use Rattle.descriptor_records.specs.Content.{FileContent, options_view}
 use Rattle.descriptor_records.specs.declared.file.FileDescriptorProto.{FileDescriptorProto}
 use Rattle.descriptor_records.specs.declared.options.Options.{Options}
 use Rattle.option_setter.specs.declared.option_setter.NameScope.{NameScope}
@@ -9,6 +9,10 @@ use Rattle.reflect_options.specs.Entities.{Entity, file_entities}
 use Rattle.reflect_options.specs.Settled.{Settles, StayAsTheyAre}
 use Rattle.reflect_options.specs.Settling.{IsScopeOf}
 use Rattle.reflect_tables.specs.Types.{PoolType}
+
+-- a file without what it tells of lines, columns and comments
+abbrev pub unplaced : FileContent → FileContent
+unplaced f = record f { source_code_info = None }
 
 -- the same in its file: what it is, where it stands, from where names are looked up, and its
 -- options
