@@ -8,7 +8,6 @@ pub mod ReadUnset
 pub mod AddedBatches
 pub mod RefusedBatches
 pub mod TextsAlike
-pub mod Unplaced
 pub mod SameFiles
 pub mod PlainRecords
 pub mod OwnSets
@@ -22,6 +21,8 @@ pub mod BatchFiles
 pub mod NewFiles
 pub mod PlainNames
 pub mod Histories
+pub mod FileNames
+pub mod StayingSources
 pub mod OneOrder
 pub mod OlderTypes
 pub mod OneFile

@@ -1,7 +1,8 @@
 -- What stands in a list, at a place of one that was made of two, or seen through a function.
-use Rattle.std.proofs.Common.{◌≡◌, ◌≤◌, ◌<◌, ◌++◌, ◌∙◌, ℕ, zero, suc, List, [], ◌∷◌, map, length, Some, slice_get, ap, refl, sym, arith}
-use Rattle.std.specs.List.{AllByRecursion}
+use Rattle.std.proofs.Common.{◌≡◌, ◌⊎◌, ◌≤◌, ◌<◌, ◌++◌, ◌∙◌, inl, inr, ℕ, zero, suc, List, [], ◌∷◌, Bool, true, false, cond, map, length, Some, slice_get, ap, refl, sym, subst, arith}
+use Rattle.std.specs.List.{AllByRecursion, Contains, filter}
 use Rattle.reflect_index.proofs.Among.{get_map, got_map}
+use Rattle.schema_view.proofs.Lists.{contains_cases, contains_here, contains_none, contains_there}
 
 -- in the first of two
 pub front_map : {A B : Type 0} (view : A → B) (xs ys : List A) (k : ℕ) → k < length xs → slice_get (map view (xs ++ ys)) k ≡ slice_get (map view xs) k
@@ -34,3 +35,13 @@ all_from view P Q from (x ∷ xs) all = (from x all.0, all_from view P Q from xs
 pub all_turned : {A B : Type 0} (turn : A → B) (P : A → Type 0) (Q : B → Type 0) → ((x : A) → P x → Q (turn x)) → (xs : List A) → AllByRecursion P xs → AllByRecursion Q (map turn xs)
 all_turned turn P Q so [] all = tt
 all_turned turn P Q so (x ∷ xs) all = (so x all.0, all_turned turn P Q so xs all.1)
+
+-- what passes stays
+pub filtered : {A : Type 0} (p : A → Bool) (xs : List A) (x : A) → Contains xs x → p x ≡ true → Contains (filter p xs) x
+filtered p [] x i passes = absurd (contains_none x i)
+filtered {A} p (y ∷ ys) x i passes = by (p y) refl (contains_cases y ys x i) (λ j. filtered p ys x j passes) where
+  by : (b : Bool) → p y ≡ b → (y ≡ x) ⊎ Contains ys x → (Contains ys x → Contains (filter p ys) x) → Contains (cond b (y ∷ filter p ys) (filter p ys)) x
+  by true is (inl same) rest = subst (Contains (y ∷ filter p ys)) same (contains_here y (filter p ys))
+  by true is (inr j) rest = contains_there y (filter p ys) x (rest j)
+  by false is (inl same) rest = absurd (cc (sym is ∙ ap p same ∙ passes))
+  by false is (inr j) rest = rest j

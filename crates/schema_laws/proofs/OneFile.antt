@@ -1,4 +1,5 @@
--- A file that was linked to one content in two pools of the same files in the end settled to one content.
+-- A file that was linked to one content in two pools of the same files in the end settled to one content; and where it
+-- differs in lines, columns and comments alone, so does what it settled to.
 use Rattle.std.proofs.Common.{◌≡◌, ◌<◌, ◌++◌, ◌∙◌, ℕ, List, [], ◌∷◌, map, length, None, Some, slice_get, ap, refl, sym, subst, arith, Contains}
 use Rattle.std.proofs.lemmas.List.{length-map}
 use Rattle.std.proofs.lemmas.Option.{same_Some}
@@ -31,8 +32,9 @@ use Rattle.reflect_tables.specs.Views.{record_file}
 use Rattle.schema_view.specs.Lawful.{Builds, SameFiles, sources}
 use Rattle.schema_view.specs.Plain.{IsPlainFile as HasPlainName}
 use Rattle.schema_laws.specs.HeldOptions.{HasType}
-use Rattle.settled_records.specs.Alike.{AllSettleAlike, IsSameEntity, SettleAlike}
+use Rattle.settled_records.specs.Alike.{AllSettleAlike, IsSameEntity, SettleAlike, unplaced}
 use Rattle.settled_records.proofs.Pools.{settle_alike}
+use Rattle.settled_records.proofs.Unplaced.{settle_unplaced}
 use Rattle.settled_records.proofs.Walk.{same_entities}
 use Rattle.settled_records.proofs.Said.{no_dot}
 use Rattle.settled_records.proofs.AllOptions.{Said, file_keeps}
@@ -85,13 +87,14 @@ module _ (batches : List (List FileContent)) (x y : FileContent) (a : IsOfLast b
     name = scope.name;
   }
 
--- ---- in both pools
+-- ---- in both pools, where it may differ in lines, columns and comments
 module _ (batches others : List (List FileContent)) (after last : List FileContent) (plain : (f : FileContent) → Contains (sources batches) f → HasPlainName f)
-    (same : SameFiles (sources batches) (sources others)) (built : Builds batches after) (also : Builds others last) (x y z : FileContent) (one : IsOneOf batches x y) (other : IsOneOf others x z) where
+    (same : SameFiles (map unplaced (sources batches)) (map unplaced (sources others))) (built : Builds batches after) (also : Builds others last)
+    (x u y z : FileContent) (one : IsOneOf batches x y) (other : IsOneOf others u z) (like : unplaced x ≡ unplaced u) where
   abbrev a : IsOfLast one.own x y
   a = one.last
 
-  abbrev b : IsOfLast other.own x z
+  abbrev b : IsOfLast other.own u z
   b = other.last
 
   ends : HaveOneEnd one.own other.own
@@ -103,12 +106,15 @@ module _ (batches others : List (List FileContent)) (after last : List FileConte
     built = subst (λ (bs : List (List FileContent)). Builds bs after) (sym one.behind) built;
     also = subst (λ (bs : List (List FileContent)). Builds bs last) (sym other.behind) also;
     plain = subst (λ (bs : List (List FileContent)). (f : FileContent) → Contains (sources bs) f → HasPlainName f) (sym one.behind) plain;
-    same = subst (λ (bs : List (List FileContent)). SameFiles (sources bs) (sources (other.more ++ other.own))) (sym one.behind)
-        (subst (λ (bs : List (List FileContent)). SameFiles (sources batches) (sources bs)) (sym other.behind) same);
+    same = subst (λ (bs : List (List FileContent)). SameFiles (map unplaced (sources bs)) (map unplaced (sources (other.more ++ other.own)))) (sym one.behind)
+        (subst (λ (bs : List (List FileContent)). SameFiles (map unplaced (sources batches)) (map unplaced (sources bs))) (sym other.behind) same);
   }
 
-  content : file_view a.stood.file ≡ file_view b.stood.file
-  content = a.stood.content ∙ sym b.stood.content
+  content : unplaced (file_view a.stood.file) ≡ unplaced (file_view b.stood.file)
+  content = ap unplaced a.stood.content ∙ like ∙ sym (ap unplaced b.stood.content)
+
+  one_name : (header_told u).name ≡ (header_told x).name
+  one_name = sym (ap (λ (c : FileContent). (header_told c).name) like)
 
   entity_settles : (c d : Entity) → IsSameEntity c d → Meets (Own a.index) c → Meets (Own b.index) d → SettleAlike a.pool b.pool c d
   entity_settles c d e own its = record {
@@ -121,7 +127,8 @@ module _ (batches others : List (List FileContent)) (after last : List FileConte
         same_Some (options_view w) (options_view o) (sym (ap (option_map options_view) have) ∙ sym e.options ∙ ap (option_map options_view) has) in
         let here : StandsIn one.own a.pool s (header_told x).name c.name = stands one.own x y a s c mine.0 scope in
         let there : StandsIn other.own b.pool t (header_told x).name c.name =
-        subst (λ (n : Text). StandsIn other.own b.pool t (header_told x).name n) (sym e.name) (stands other.own x z b t d theirs.0 range) in
+        subst (λ (n : Text). StandsIn other.own b.pool t (header_told x).name n) (sym e.name)
+        (subst (λ (file : Text). StandsIn other.own b.pool t file d.name) one_name (stands other.own u z b t d theirs.0 range)) in
         let second : Settles c.scope t w (options_view differs) ways = subst (λ (v : OptionScope). Settles v t w (options_view differs) ways) (sym e.scope) also_settles in
         given_alike one.own other.own a.pool b.pool s t (header_told x).name c.name c.scope o w settled differs paths ways ends here there
         (lead_alike one.own other.own a.pool b.pool s t (header_told x).name c.name ends here there)
@@ -139,9 +146,16 @@ module _ (batches others : List (List FileContent)) (after last : List FileConte
       entities_settle (file_entities a.index a.stood.file) (file_entities b.index b.stood.file) (same_entities a.index b.index a.stood.file b.stood.file content)
       (own_entities a.index a.stood.file a.stood.given) (own_entities b.index b.stood.file b.stood.given)
 
-  pub one_content : y ≡ z
-  one_content =
+  pub one_but_for_places : unplaced y ≡ unplaced z
+  one_but_for_places =
+      let r : option_map unplaced (slice_get (map file_view a.new.records) a.index) ≡ option_map unplaced (slice_get (map file_view b.new.records) b.index) =
+      settle_unplaced a.pool b.pool a.new b.new a.first b.first a.index b.index a.stood.file b.stood.file a.settles b.settles
+      a.far (near one.own x y a) b.far (near other.own u z b) a.stood.there b.stood.there content all_settle in
+      same_Some (unplaced y) (unplaced z) (sym (ap (option_map unplaced) a.comes) ∙ r ∙ ap (option_map unplaced) b.comes)
+
+  pub one_content : x ≡ u → y ≡ z
+  one_content is =
       let r : slice_get (map file_view a.new.records) a.index ≡ slice_get (map file_view b.new.records) b.index =
       settle_alike a.pool b.pool a.new b.new a.first b.first a.index b.index a.stood.file b.stood.file a.settles b.settles
-      a.far (near one.own x y a) b.far (near other.own x z b) a.stood.there b.stood.there content all_settle in
+      a.far (near one.own x y a) b.far (near other.own u z b) a.stood.there b.stood.there (a.stood.content ∙ is ∙ sym b.stood.content) all_settle in
       same_Some y z (sym a.comes ∙ r ∙ b.comes)

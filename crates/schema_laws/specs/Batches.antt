@@ -1,5 +1,5 @@
 -- Files that were added to schemas in batches, and why files are no batch behind a schema's.
-use Rattle.std.specs.Prelude.{◌⊎◌, List, None, map, Contains}
+use Rattle.std.specs.Prelude.{◌⊎◌, List, map, Contains}
 use Rattle.descriptor_records.specs.Content.{FileContent, file_view}
 use Rattle.descriptor_records.specs.declared.file.FileDescriptorProto.{FileDescriptorProto}
 use Rattle.reflect_build.specs.Refusals.{AreTooMany, IsOf, Linking, new_files}
@@ -8,6 +8,7 @@ use Rattle.schema_core.specs.Refusals.{IsPool}
 use Rattle.schema_core.specs.declared.schema.Schema.{Schema}
 use Rattle.schema_view.specs.Lawful.{IsLawful, Meanings, SameFiles, sources}
 use Rattle.schema_view.specs.Plain.{IsPlainFile}
+use Rattle.settled_records.specs.Alike.{unplaced}
 use Rattle.types_view.specs.Typed.{IsTyped}
 use Rattle.schema_laws.specs.Histories.{Addition, AdditionLinked}
 
@@ -17,10 +18,6 @@ pub record Grows (old new : Schema) : Type 0 where
   pub after : IsPool new.pool
   pub addition : Addition
   pub linked : AdditionLinked old.pool addition new.pool
-
--- a file without what it tells of lines, columns and comments
-abbrev pub unplaced : FileContent → FileContent
-unplaced f = record f { source_code_info = None }
 
 -- the same files, but for lines, columns and comments, were added to both schemas in these batches
 -- and in those; their names have no dots, as sources give them

@@ -2,6 +2,7 @@ pub mod Schemas
 pub mod Records
 pub mod Reprints
 pub mod Histories
+pub mod SameSources
 pub mod Batches
 pub mod Detours
 pub mod HeldOptions

@@ -12,7 +12,9 @@ ghost use Rattle.schema_view.specs.Plain.{IsPlainFile};
 ghost use Rattle.schema_core.specs.Refusals.{IsPool, SourcesLinked, descriptor_name};
 ghost use Rattle.schema_core.specs.declared.schema.Schema.{Schema};
 ghost use Rattle.schema_laws.specs.Batches.{HaveSameFiles};
-ghost use Rattle.schema_laws.specs.Histories.{AreNewFilesOf, BatchLinked, IsMadeBy};
+ghost use Rattle.schema_laws.specs.Histories.{AreNewFilesOf, BatchLinked, IsMadeBy, Sources};
+ghost use Rattle.schema_laws.specs.SameSources.{AreSameSources, given_in};
+ghost use Rattle.settled_records.specs.Alike.{unplaced};
 
 /// A schema that `Schema::new` made has a history: the file of its source.
 pub fn new_schemas_have_a_history()
@@ -40,13 +42,33 @@ pub fn files_of_sources_have_plain_names()
         → (f : FileContent) → Contains (sources batches) f → IsPlainFile f }
 {}
 
-/// So where the same files came in other batches, all laws of schemas of the same files speak of
-/// the two: they have one order (`schemas_have_one_order`), and answer alike.
+/// So where the same files came in other batches, but for lines, columns and comments, all laws of
+/// schemas of the same files speak of the two: they have one order (`schemas_have_one_order`), and
+/// answer alike.
 pub fn histories_of_the_same_files_have_one_order()
     ensures { (batches others : List (List FileContent)) (s t : Schema)
-        → IsMadeBy BatchLinked batches s
-        → IsMadeBy BatchLinked others t → SameFiles (sources batches) (sources others)
+        → IsMadeBy BatchLinked batches s → IsMadeBy BatchLinked others t
+        → SameFiles (map unplaced (sources batches)) (map unplaced (sources others))
         → HaveSameFiles batches others s t }
+{}
+
+/// And so they speak of any two schemas that sources made, `Schema::new` or not, in whatever order
+/// and batches, where those that stayed have the same names and the same tokens: gaps and comments
+/// may differ, and sources may come that change nothing, under a name that was there.
+pub fn sources_of_the_same_tokens_make_schemas_of_the_same_files()
+    ensures { (batches others : List Sources) (s t : Schema) → IsMadeBy SourcesLinked batches s
+        → IsMadeBy SourcesLinked others t → AreSameSources batches others
+        → (fs : List (List FileContent)) × (gs : List (List FileContent))
+        × HaveSameFiles fs gs s t }
+{}
+
+/// Histories of sources of the same names and tokens are histories of the same files, but for lines,
+/// columns and comments.
+pub fn histories_of_the_same_sources_are_of_the_same_files()
+    ensures { (batches others : List (List FileContent)) (s t : Schema)
+        (made : IsMadeBy BatchLinked batches s) (also : IsMadeBy BatchLinked others t)
+        → AreSameSources (given_in batches s made) (given_in others t also)
+        → SameFiles (map unplaced (sources batches)) (map unplaced (sources others)) }
 {}
 
 /// And both hold the same records: the same options, and locations.
@@ -55,4 +77,14 @@ pub fn schemas_of_the_same_files_hold_the_same_records()
         → IsMadeBy BatchLinked batches s → IsMadeBy BatchLinked others t
         → SameFiles (sources batches) (sources others)
         → SameFiles (map file_view s.pool.records) (map file_view t.pool.records) }
+{}
+
+/// Where the files differ in lines, columns and comments, so do the records, and in nothing else: the
+/// options are the same, in the same bytes.
+pub fn schemas_of_the_same_files_hold_the_same_options()
+    ensures { (batches others : List (List FileContent)) (s t : Schema)
+        → IsMadeBy BatchLinked batches s → IsMadeBy BatchLinked others t
+        → SameFiles (map unplaced (sources batches)) (map unplaced (sources others))
+        → SameFiles (map unplaced (map file_view s.pool.records))
+            (map unplaced (map file_view t.pool.records)) }
 {}

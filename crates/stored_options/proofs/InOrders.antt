@@ -20,7 +20,7 @@ use Rattle.reflect_options.specs.Settled.{Settles}
 use Rattle.reflect_tables.specs.Types.{PoolType}
 use Rattle.reflect_wire.specs.Written.{AreBytes}
 use Rattle.schema_view.specs.Views.{View, view_of}
-use Rattle.schema_view.proofs.Batches.{same_view}
+use Rattle.stored_options.proofs.Unplaced.{one_view}
 use Rattle.stored_options.proofs.Again.{no_items, no_paths, same_bytes}
 use Rattle.stored_options.proofs.Later.{of_an_entry}
 use Rattle.stored_options.proofs.Linking.{said_as_before}
@@ -93,7 +93,7 @@ module _ (scope : OptionScope) (s t : NameScope) (o x settled other : Options) (
     written_alike wrote =
         let wrote_x : options_view x ≡ as_read scope (options_view x).uninterpreted_option = subst (λ (c : OptionsContent). c ≡ as_read scope c.uninterpreted_option) (sym same) wrote in
         let small_x : HaveSmallNumbers (options_view x) = subst HaveSmallNumbers (sym same) small in
-        let views : view_of ends.last ≡ view_of ends.after = sym (same_view (ends.more ++ batches) (ends.further ++ others) ends.after ends.last ends.plain ends.same ends.built ends.also) in
+        let views : view_of ends.last ≡ view_of ends.after = sym (one_view (ends.more ++ batches) (ends.further ++ others) ends.after ends.last ends.plain ends.same ends.built ends.also) in
         let one = set_in_the_end batches ends.more ends.after ends.built p s file name here scope o settled paths sound can wrote small is in
         let two = set_in_the_end others ends.further ends.last ends.also q t file name there scope x other ways and_sound and_can wrote_x small_x also in
         let in_one = subst (λ (v : View). SetAndWritten (schema_in v unread) (numbers_named t) (type_name scope) (options_view x).uninterpreted_option other.encoded.items ways) views two in

@@ -16,10 +16,11 @@ use Rattle.schema_view.specs.Means.{MeansBy}
 use Rattle.schema_view.specs.Outlines.{Outline, outline_of}
 use Rattle.schema_view.specs.Plain.{IsPlainFile}
 use Rattle.schema_view.proofs.Batches.{files_there}
-use Rattle.schema_view.proofs.Lists.{contains_map}
+use Rattle.schema_view.proofs.Lists.{contains_map, contains_map_cases}
 use Rattle.schema_view.proofs.Nested.{AreNested}
 use Rattle.schema_view.proofs.Road.{AreLinked, built_linked}
 use Rattle.linked_view.proofs.Means.{Holding, Wanted, means_to}
+use Rattle.settled_records.specs.Alike.{unplaced}
 use Rattle.stored_options.specs.Standing.{HaveOneEnd, StandsIn}
 use Rattle.stored_options.proofs.Built.{built_nested, earlier_sources, earlier_there}
 use Rattle.stored_options.proofs.Numbers.{NumbersExtension, NumbersField, one_extension, one_field}
@@ -28,49 +29,89 @@ use Rattle.stored_options.proofs.LooksUp.{LooksUp, StandsAmong}
 use Rattle.stored_options.proofs.Pool.{stands_among}
 use Rattle.stored_options.proofs.Seen.{one_file, seen_there}
 use Rattle.stored_options.proofs.Led.{LeadsOutside, leads_to}
+use Rattle.stored_options.proofs.Unplaced.{builds_unplaced, outlines_unplaced, plain_placed, plain_there, plain_unplaced, same_there}
+use Rattle.stored_options.proofs.UnplacedNames.{leads_bare, stands_bare}
+
+-- what is among others is so without places
+maps_within : (xs ys : List FileContent) → ((f : FileContent) → Contains xs f → Contains ys f)
+    → (f : FileContent) → Contains (map unplaced xs) f → Contains (map unplaced ys) f
+maps_within xs ys within f i =
+    let g = contains_map_cases unplaced xs f i in
+    subst (Contains (map unplaced ys)) g.2 (contains_map unplaced ys g.0 (within g.0 g.1))
 
 module _ (batches others : List (List FileContent)) (p q : PoolType) (s t : NameScope)
     (file scope : Text) (ends : HaveOneEnd batches others) (a : StandsIn batches p s file scope)
     (b : StandsIn others q t file scope) where
+  -- the files without places, in which both pools agree
+  abbrev here : List FileContent
+  here = map file_view a.typed.but.linked.records
+
+  abbrev there : List FileContent
+  there = map file_view b.typed.but.linked.records
+
   abbrev fs : List FileContent
-  fs = map file_view a.typed.but.linked.records
+  fs = map unplaced here
 
   abbrev gs : List FileContent
-  gs = map file_view b.typed.but.linked.records
+  gs = map unplaced there
 
-  all : AreLinked ends.after
-  all = built_linked (ends.more ++ batches) ends.after ends.built
+  abbrev every : List FileContent
+  every = map unplaced ends.after
 
-  left : (f : FileContent) → Contains fs f → Contains ends.after f
-  left f i = earlier_there ends.more batches fs ends.after a.typed.but.built.built ends.built f i
+  all : AreLinked every
+  all = built_linked (map (map unplaced) (ends.more ++ batches)) every
+      (builds_unplaced (ends.more ++ batches) ends.after ends.built)
+
+  left : (f : FileContent) → Contains fs f → Contains every f
+  left = maps_within here ends.after
+      (earlier_there ends.more batches here ends.after a.typed.but.built.built ends.built)
 
   plain_too : (f : FileContent) → Contains (sources (ends.further ++ others)) f → IsPlainFile f
-  plain_too f i = ends.plain f ((ends.same f).1 i)
+  plain_too f i =
+      let g = contains_map_cases unplaced (sources (ends.more ++ batches)) (unplaced f)
+      ((ends.same (unplaced f)).1 (contains_map unplaced (sources (ends.further ++ others)) f i)) in
+      plain_placed f (subst IsPlainFile g.2 (plain_unplaced g.0 (ends.plain g.0 g.1)))
 
-  right : (g : FileContent) → Contains gs g → Contains ends.after g
+  right : (g : FileContent) → Contains gs g → Contains every g
   right g i =
-      files_there (ends.further ++ others) (ends.more ++ batches) ends.last ends.after plain_too
-      (λ f. ((ends.same f).1, (ends.same f).0)) ends.also ends.built g
-      (earlier_there ends.further others gs ends.last b.typed.but.built.built ends.also g i)
+      files_there (map (map unplaced) (ends.further ++ others))
+      (map (map unplaced) (ends.more ++ batches)) (map unplaced ends.last) every
+      (plain_there (ends.further ++ others) plain_too)
+      (same_there (ends.further ++ others) (ends.more ++ batches)
+      (λ f. ((ends.same f).1, (ends.same f).0)))
+      (builds_unplaced (ends.further ++ others) ends.last ends.also)
+      (builds_unplaced (ends.more ++ batches) ends.after ends.built) g
+      (maps_within there ends.last
+      (earlier_there ends.further others there ends.last b.typed.but.built.built ends.also) g i)
+
+  linked_here : AreLinked fs
+  linked_here = built_linked (map (map unplaced) batches) fs
+      (builds_unplaced batches here a.typed.but.built.built)
+
+  linked_there : AreLinked gs
+  linked_there = built_linked (map (map unplaced) others) gs
+      (builds_unplaced others there b.typed.but.built.built)
 
   nested : AreNested (outlines fs)
-  nested = built_nested batches fs a.typed.but.built.built
-      (λ f i. ends.plain f (earlier_sources ends.more batches f i))
+  nested = subst AreNested (sym (outlines_unplaced here))
+      (built_nested batches here a.typed.but.built.built
+      (λ f i. ends.plain f (earlier_sources ends.more batches f i)))
 
   nested_too : AreNested (outlines gs)
-  nested_too = built_nested others gs b.typed.but.built.built
-      (λ f i. plain_too f (earlier_sources ends.further others f i))
+  nested_too = subst AreNested (sym (outlines_unplaced there))
+      (built_nested others there b.typed.but.built.built
+      (λ f i. plain_too f (earlier_sources ends.further others f i)))
 
   first : StandsAmong fs s file
-  first = stands_among batches p s file scope a
+  first = stands_bare here s file (stands_among batches p s file scope a)
 
   second : StandsAmong gs t file
-  second = stands_among others q t file scope b
+  second = stands_bare there t file (stands_among others q t file scope b)
 
   -- the options stand in the same file
   same_home : first.home ≡ second.home
   same_home =
-      one_file ends.after all first.home second.home (left first.home first.there)
+      one_file every all first.home second.home (left first.home first.there)
       (right second.home second.there) (first.name ∙ sym second.name)
 
   abbrev from : Outline
@@ -97,10 +138,8 @@ module _ (batches others : List (List FileContent)) (p q : PoolType) (s t : Name
       t.name.now name y e n).0 in
       one_meaning fs gs from (known_of_files s.pool.now.records) (known_of_files t.pool.now.records)
       (tells s.seen.now) (tells t.seen.now) first.looks_up looks_up_too nested nested_too
-      (seen_there ends.after all fs gs left right
-      (built_linked others gs b.typed.but.built.built) from home_there)
-      (seen_there ends.after all gs fs right left
-      (built_linked batches fs a.typed.but.built.built) from home_here)
+      (seen_there every all fs gs left right linked_there from home_there)
+      (seen_there every all gs fs right left linked_here from home_here)
       scope name x y
       (subst (λ around. MeansBy (Wanted (known_of_files s.pool.now.records) (tells s.seen.now)
       filters.Extension) (Holding (known_of_files s.pool.now.records) (tells s.seen.now)
@@ -113,16 +152,16 @@ module _ (batches others : List (List FileContent)) (p q : PoolType) (s t : Name
       → n ≡ k
   one_outside name n k x y =
       let full : x.full ≡ y.full = one_full name x.full y.full x.means y.means in
-      one_extension ends.after all fs gs left right y.full n k
+      one_extension every all fs gs left right y.full n k
       (subst (λ m. NumbersExtension fs m n) full x.has) y.has
 
   pub lead_alike : LeadAlike (numbers_named s) (numbers_named t)
   lead_alike u part n k x y =
-      by part.is_extension (leads_to batches p s file scope a u part n x)
-      (leads_to others q t file scope b u part k y) where
+      by part.is_extension (leads_bare here s u part n (leads_to batches p s file scope a u part n x))
+      (leads_bare there t u part k (leads_to others q t file scope b u part k y)) where
         by : (c : Bool) → MatchBool c (LeadsOutside fs s part.name_part n)
             (NumbersField fs u part.name_part n)
             → MatchBool c (LeadsOutside gs t part.name_part k) (NumbersField gs u part.name_part k)
             → n ≡ k
         by true v w = one_outside part.name_part n k v w
-        by false v w = one_field ends.after all fs gs left right u part.name_part n k v w
+        by false v w = one_field every all fs gs left right u part.name_part n k v w

@@ -29,6 +29,8 @@ pub mod Into
 pub mod SetAlong
 pub mod OfSources
 pub mod Built
+pub mod Unplaced
+pub mod UnplacedNames
 pub mod Seen
 pub mod Placed
 pub mod Entries

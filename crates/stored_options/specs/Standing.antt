@@ -1,5 +1,5 @@
 -- Where options stand, in pools whose batches brought the same files in another order.
-use Rattle.std.specs.Prelude.{◌≡◌, ◌++◌, ℕ, List, Some, Contains, slice_get}
+use Rattle.std.specs.Prelude.{◌≡◌, ◌++◌, ℕ, List, Some, Contains, map, slice_get}
 use Rattle.descriptor_records.specs.Content.{Text, FileContent}
 use Rattle.option_setter.specs.declared.option_setter.NameScope.{NameScope}
 use Rattle.reflect_options.specs.Settling.{SeesFrom}
@@ -7,6 +7,7 @@ use Rattle.reflect_pool.specs.Imports.{names_of_files}
 use Rattle.reflect_tables.specs.Types.{PoolType}
 use Rattle.schema_view.specs.Lawful.{Builds, SameFiles, sources}
 use Rattle.schema_view.specs.Plain.{IsPlainFile}
+use Rattle.settled_records.specs.Alike.{unplaced}
 use Rattle.types_view.specs.Pools.{IsPool}
 use Rattle.types_view.specs.Typed.{IsTyped}
 
@@ -23,7 +24,7 @@ pub record StandsIn (batches : List (List FileContent)) (p : PoolType) (s : Name
   pub name : s.name.now ≡ scope
 
 -- batches, the last of them first, behind which others may come so that the same files are there,
--- whose names have no dots
+-- but for lines, columns and comments, and their names have no dots
 pub record HaveOneEnd (batches others : List (List FileContent)) : Type 0 where
   pub more : List (List FileContent)
   pub further : List (List FileContent)
@@ -32,4 +33,5 @@ pub record HaveOneEnd (batches others : List (List FileContent)) : Type 0 where
   pub built : Builds (more ++ batches) after
   pub also : Builds (further ++ others) last
   pub plain : (f : FileContent) → Contains (sources (more ++ batches)) f → IsPlainFile f
-  pub same : SameFiles (sources (more ++ batches)) (sources (further ++ others))
+  pub same : SameFiles (map unplaced (sources (more ++ batches)))
+      (map unplaced (sources (further ++ others)))

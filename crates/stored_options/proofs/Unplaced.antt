@@ -20,7 +20,7 @@ use Rattle.schema_view.proofs.Batches.{same_view}
 use Rattle.schema_view.proofs.Lists.{contains_here, contains_map, contains_map_cases, contains_there, first_from, first_some, one_of, sum_map}
 use Rattle.schema_view.proofs.Renames.{map_same}
 use Rattle.texts_view.proofs.ReadViews.{first_same}
-use Rattle.schema_laws.specs.Batches.{unplaced}
+use Rattle.settled_records.specs.Alike.{unplaced}
 
 -- ---- lists
 
@@ -59,7 +59,7 @@ found_by_name f = ap (λ b. when b f) (own_name (file_name f))
 
 -- ---- files without places
 
-outlines_unplaced : (fs : List FileContent) → outlines (map unplaced fs) ≡ outlines fs
+pub outlines_unplaced : (fs : List FileContent) → outlines (map unplaced fs) ≡ outlines fs
 outlines_unplaced fs = map_same outline_of unplaced outline_of (λ f. refl) fs
 
 times_unplaced : (test : Body → Bool) (fs : List FileContent)
@@ -71,8 +71,16 @@ times_unplaced test fs =
 file_unplaced : (f : FileContent) → IsFile f → IsFile (unplaced f)
 file_unplaced f is = record { name = is.name; syntax = is.syntax; publics = is.publics }
 
-plain_unplaced : (f : FileContent) → IsPlainFile f → IsPlainFile (unplaced f)
+pub plain_unplaced : (f : FileContent) → IsPlainFile f → IsPlainFile (unplaced f)
 plain_unplaced f is = record {
+  messages = is.messages;
+  enums = is.enums;
+  services = is.services;
+  extensions = is.extensions;
+}
+
+pub plain_placed : (f : FileContent) → IsPlainFile (unplaced f) → IsPlainFile f
+plain_placed f is = record {
   messages = is.messages;
   enums = is.enums;
   services = is.services;
@@ -167,13 +175,13 @@ adds_unplaced : (old new after : List FileContent) → AddsLawful old new after
 adds_unplaced old new after (m, l, is) =
     (by_name old new m l, lawful old new m l, ap (map unplaced) is ∙ stand old new m l)
 
-builds_unplaced : (batches : List (List FileContent)) (after : List FileContent) → Builds batches after
+pub builds_unplaced : (batches : List (List FileContent)) (after : List FileContent) → Builds batches after
     → Builds (map (map unplaced) batches) (map unplaced after)
 builds_unplaced [] after is = ap (map unplaced) is
 builds_unplaced (new ∷ earlier) after (old, before, adds) =
     (map unplaced old, builds_unplaced earlier old before, adds_unplaced old new after adds)
 
-sources_unplaced : (batches : List (List FileContent))
+pub sources_unplaced : (batches : List (List FileContent))
     → sources (map (map unplaced) batches) ≡ map unplaced (sources batches)
 sources_unplaced [] = refl
 sources_unplaced (new ∷ earlier) =
@@ -189,23 +197,31 @@ view_unplaced fs = λ i. record {
   extensions = λ k. first_same (extension_at k) unplaced (extension_at k) (λ f. refl) fs i;
 }
 
--- files that are the same but for places, in whatever batches, have one view
+-- files that are the same but for places, in whatever batches, are the same without places
+
+pub plain_there : (batches : List (List FileContent))
+    → ((f : FileContent) → Contains (sources batches) f → IsPlainFile f)
+    → (f : FileContent) → Contains (sources (map (map unplaced) batches)) f → IsPlainFile f
+plain_there batches plain f i =
+    let p = contains_map_cases unplaced (sources batches) f (subst (λ fs. Contains fs f) (sources_unplaced batches) i) in
+    subst IsPlainFile p.2 (plain_unplaced p.0 (plain p.0 p.1))
+
+pub same_there : (batches others : List (List FileContent))
+    → SameFiles (map unplaced (sources batches)) (map unplaced (sources others))
+    → SameFiles (sources (map (map unplaced) batches)) (sources (map (map unplaced) others))
+same_there batches others same =
+    subst (λ fs. SameFiles fs (sources (map (map unplaced) others))) (sym (sources_unplaced batches))
+    (subst (SameFiles (map unplaced (sources batches))) (sym (sources_unplaced others)) same)
+
+-- and have one view
 pub one_view : (batches others : List (List FileContent)) (after last : List FileContent)
     → ((f : FileContent) → Contains (sources batches) f → IsPlainFile f)
     → SameFiles (map unplaced (sources batches)) (map unplaced (sources others))
     → Builds batches after → Builds others last → view_of after ≡ view_of last
 one_view batches others after last plain same built rebuilt =
-    let a = map (map unplaced) batches in
-    let b = map (map unplaced) others in
-    let plain_there : (f : FileContent) → Contains (sources a) f → IsPlainFile f =
-    λ f i.
-    let p = contains_map_cases unplaced (sources batches) f (subst (λ fs. Contains fs f) (sources_unplaced batches) i) in
-    subst IsPlainFile p.2 (plain_unplaced p.0 (plain p.0 p.1)) in
-    let same_there : SameFiles (sources a) (sources b) =
-    subst (λ fs. SameFiles fs (sources b)) (sym (sources_unplaced batches))
-    (subst (SameFiles (map unplaced (sources batches))) (sym (sources_unplaced others)) same) in
     sym (view_unplaced after)
-    ∙ same_view a b (map unplaced after) (map unplaced last) plain_there same_there
+    ∙ same_view (map (map unplaced) batches) (map (map unplaced) others) (map unplaced after)
+    (map unplaced last) (plain_there batches plain) (same_there batches others same)
     (builds_unplaced batches after built) (builds_unplaced others last rebuilt)
     ∙ view_unplaced last
 
