@@ -86,5 +86,5 @@ pub fn schemas_of_the_same_files_hold_the_same_options()
         → IsMadeBy BatchLinked batches s → IsMadeBy BatchLinked others t
         → SameFiles (map unplaced (sources batches)) (map unplaced (sources others))
         → SameFiles (map unplaced (map file_view s.pool.records))
-            (map unplaced (map file_view t.pool.records)) }
+        (map unplaced (map file_view t.pool.records)) }
 {}

@@ -35,5 +35,5 @@ pub fn files_whose_options_settle_alike_stay_the_same_but_for_places()
         → slice_get p.records i ≡ Some f → slice_get q.records j ≡ Some g
         → unplaced (file_view f) ≡ unplaced (file_view g) → AllSettleAlike p q i j f g
         → option_map unplaced (slice_get (map file_view new.records) i)
-            ≡ option_map unplaced (slice_get (map file_view other.records) j) }
+        ≡ option_map unplaced (slice_get (map file_view other.records) j) }
 {}
