@@ -1,13 +1,12 @@
 -- Options that are set one after another leave a fine message fine.
-use Rattle.std.proofs.Common.{◌≡◌, inl, inr, ℕ, ℤ, zero, suc, ◌≤◌, Bool, true, false, List, [], ◌∷◌, refl, sym, ap, ◌∙◌, subst, arith}
+use Rattle.std.proofs.Common.{◌≡◌, inl, inr, ℕ, ℤ, suc, ◌≤◌, Bool, true, false, List, [], ◌∷◌, refl, sym, ap, ◌∙◌, subst, arith}
 use Rattle.std.specs.List.{AllByRecursion}
 use Rattle.descriptor_records.specs.Content.{OptionContent, option_view}
-use Rattle.descriptor_records.specs.declared.options.NamePart.{NamePart}
 use Rattle.descriptor_records.specs.declared.options.UninterpretedOption.{UninterpretedOption}
 use Rattle.message_view.specs.Sound.{IsSound}
 use Rattle.message_view.proofs.Entries.{entry_of_map}
 use Rattle.option_setter.specs.OptionValues.{IsSaid}
-use Rattle.option_setter.specs.SetOptions.{PutsSaid, SetsLast, SetsParts}
+use Rattle.option_setter.specs.SetOptions.{PutsSaid, SetsLast}
 use Rattle.option_setter.specs.declared.option_setter.NameScope.{NameScope}
 use Rattle.reflect_format.specs.Steps.{AddsValues}
 use Rattle.reflect_format.specs.Takes.{holds_many, target_pool, target_type}
@@ -18,15 +17,13 @@ use Rattle.reflect_options.specs.Settled.{SetsAll}
 use Rattle.reflect_pool.specs.Kinds.{IsKind}
 use Rattle.reflect_pool.specs.Shapes.{holds_list, holds_map}
 use Rattle.reflect_pool.specs.declared.kind.Kind.TheVariants as values
-use Rattle.reflect_pool.specs.declared.message.MessageDescriptor.{MessageDescriptor}
 use Rattle.reflect_tables.specs.Types.{FieldType, PoolType}
-use Rattle.settled_records.proofs.Kept.{parts_type}
 use Rattle.text_view.proofs.Given.{entry_kind}
 use Rattle.text_view.proofs.Once.{second}
 use Rattle.text_view.proofs.Owned.{OwnsTarget, pool_is}
+use Rattle.stored_options.proofs.EachStep.{EachKeeps, above, all_keep}
 use Rattle.stored_options.proofs.Fine.{IsFine, made_fine, made_kinds, made_type}
 use Rattle.stored_options.proofs.Mapping.{map_fine}
-use Rattle.stored_options.proofs.Owning.{leads_whole, left_type, named_owns}
 use Rattle.stored_options.proofs.Putting.{IsSuited, left_fine, list_fine, put_fine}
 use Rattle.stored_options.proofs.SaidSuits.{HasFewBits}
 use Rattle.stored_options.proofs.Saying.{leads_fine, message_suited, said_suited}
@@ -73,50 +70,25 @@ module _ (o : OptionContent) (few : HasFewBits o) (levels : ℕ) (le : 100 ≤ l
         put_fine (suc levels) old sound fine new sets.same_type t owns one sets.put.2 suited (said_suited pool sound o few f sets.put.2 levels sets.put.0 kind sets.put.3 le).1 puts sets.exclusive sets.ascending
     by (inr (of_many, adds)) = many of_many adds (holds_map pool f) refl
 
--- ---- along a name
-
--- so many levels may lie below a message, where a text may have 100 more
-abbrev pub above : ℕ → ℕ
-above zero = 100
-above (suc levels) = suc (above levels)
-
-above_least : (levels : ℕ) → 100 ≤ above levels
-above_least zero = omega arith
-above_least (suc levels) = let h = above_least levels in omega (arith, h)
-
-module _ (s : NameScope) (o : OptionContent) (few : HasFewBits o) where
-  parts_fine : (levels : ℕ) (parts : List NamePart) (old new : DynamicMessage) (path : List ℤ) → IsSound old.descriptor.pool.now
-      → SetsParts s o levels parts old new path → IsFine (suc (above levels)) old → IsFine (suc (above levels)) new
-  parts_fine levels [] old new path sound sets fine = subst (IsFine (suc (above levels))) (sym sets.0) fine
-  parts_fine levels (part ∷ []) old new path sound sets fine =
-      last_fine o few (above levels) (above_least levels) old new sound fine sets.0 (named_owns s old.descriptor sound.apart part sets.0 sets.2 sets.3.no_floats) sets.1 sets.3
-  parts_fine zero (part ∷ next ∷ parts) old new path sound sets fine = absurd sets
-  parts_fine (suc levels) (part ∷ next ∷ parts) old new path sound sets fine =
-      let t = sets.0 in
-      let left = sets.2 in
-      let inner = sets.3 in
-      let set = sets.4 in
-      let pool = old.descriptor.pool.now in
-      let f = target_type t in
-      let owns = named_owns s old.descriptor sound.apart part t sets.5 (leads_whole t old left inner sets.6) in
-      let led = leads_fine (suc (above levels)) old sound fine t owns sets.6.one left inner sets.6 in
-      let below = parts_fine levels (next ∷ parts) inner set sets.1 (subst IsSound (sym led.1.0) sound) sets.7 led.0 in
-      let set_type : set.descriptor ≡ inner.descriptor = parts_type s o levels (next ∷ parts) inner set sets.1 sets.7 in
-      let suited = message_suited (suc (above levels)) pool f set (subst (λ c. IsKind pool (values.Message c) f.kind) (sym set_type) led.1) below in
-      let type : left.descriptor ≡ old.descriptor = left_type t old left sets.6.taken in
-      let rest = left_fine (suc (suc (above levels))) old sound fine left t type owns sets.6.taken in
-      put_fine (suc (suc (above levels))) left (subst (λ (c : MessageDescriptor). IsSound c.pool.now) (sym type) sound) rest new (sets.9 ∙ sym type) t (subst (λ (c : MessageDescriptor). OwnsTarget c t) (sym type) owns) sets.6.one
-      (held.Message set) (subst (λ (c : MessageDescriptor). IsSuited (suc (suc (above levels))) c.pool.now f (held.Message set)) (sym type) suited) (inr (set, refl)) sets.8 sets.11 sets.12
-
 -- ---- one option after another
+
+fine_keeps : (o : OptionContent) → HasFewBits o → EachKeeps o IsFine
+fine_keeps o few = record {
+  last = λ levels le old new sound fine t owns path sets. last_fine o few levels le old new sound fine t owns path sets;
+  inside = λ levels old sound fine t owns left inner leads. leads_fine levels old sound fine t owns leads.one left inner leads;
+  taken = λ levels old sound fine t owns left type unsets. left_fine levels old sound fine left t type owns unsets;
+  back = λ levels left sound fine t owns one set new below kind puts type exclusive ascending.
+      put_fine (suc levels) left sound fine new type t owns one (held.Message set) (message_suited levels left.descriptor.pool.now (target_type t) set kind below) (inr (set, refl)) puts exclusive ascending;
+}
 
 -- of each of them the numbers are of 64 bits
 abbrev pub HaveFewBits : List UninterpretedOption → Type 0
 HaveFewBits = AllByRecursion (λ o. HasFewBits (option_view o))
 
+all_keep_fine : (os : List UninterpretedOption) → HaveFewBits os → AllByRecursion (λ (o : UninterpretedOption). EachKeeps (option_view o) IsFine) os
+all_keep_fine [] few = tt
+all_keep_fine (o ∷ os) few = (fine_keeps (option_view o) few.0, all_keep_fine os few.1)
+
 pub all_fine : (s : NameScope) (os : List UninterpretedOption) → HaveFewBits os → (old new : DynamicMessage) (paths : List (List ℤ))
     → IsSound old.descriptor.pool.now → SetsAll s os old new paths → IsFine (suc (above 100)) old → IsFine (suc (above 100)) new
-all_fine s [] few old new paths sound sets fine = subst (IsFine (suc (above 100))) (sym sets.0) fine
-all_fine s (o ∷ os) few old new paths sound sets fine =
-    let type : sets.0.descriptor ≡ old.descriptor = parts_type s (option_view o) 100 o.name.items old sets.0 sets.1 sets.3 in
-    all_fine s os few.1 sets.0 new sets.2 (subst (λ (c : MessageDescriptor). IsSound c.pool.now) (sym type) sound) sets.4 (parts_fine s (option_view o) few.0 100 o.name.items old sets.0 sets.1 sound sets.3 fine)
+all_fine s os few = all_keep s IsFine os (all_keep_fine os few)

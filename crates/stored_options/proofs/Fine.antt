@@ -73,9 +73,12 @@ module _ (d : MessageDescriptor) (sound : IsSound d.pool.now) (z : Text) (fs : F
   known : KnowsAll (types_of d.pool.now) (name_at d.pool.now d.index) (view m)
   known = given_known schema (λ t n f key has label. ((sound_types d.pool.now sound none_decoded).entries t n f key has label).1) (name_at d.pool.now d.index) z (view m) gives
 
+  pub made_shape : (levels : ℕ) → 100 ≤ levels → Exclusive (suc levels) m
+  made_shape levels le = filled_shape true makes.0 m its_sound fs levels (omega (arith, le, text.shallow)) (nothing_shaped true levels makes.0 makes.2) makes.3
+
   pub made_fine : (levels : ℕ) → 100 ≤ levels → IsFine levels m
   made_fine levels le = record {
-    shape = filled_shape true makes.0 m its_sound fs levels (omega (arith, le, text.shallow)) (nothing_shaped true levels makes.0 makes.2) makes.3;
+    shape = made_shape levels le;
     typed = subst (λ (c : MessageDescriptor). IsTyped (suc levels) (types_of c.pool.now) (name_at c.pool.now c.index) (view m)) (sym made_type)
         (typed_deeper (types_of d.pool.now) 100 (suc levels) (omega (arith, le)) (name_at d.pool.now d.index) (view m)
         (given_suits schema (sound_types d.pool.now sound none_decoded) (name_at d.pool.now d.index) z (view m) gives) known);

@@ -35,8 +35,7 @@ use Rattle.text_view.proofs.Adds.{label_keyed, label_many, label_one, list_of_ma
 use Rattle.text_view.proofs.Once.{one_of}
 use Rattle.text_view.proofs.Owned.{OwnsTarget, pool_is, target_whole, under_target}
 use Rattle.text_view.proofs.Shaped.{list_before, single_fits}
-use Rattle.stored_options.proofs.Fine.{IsFine}
-use Rattle.stored_options.proofs.Putting.{stood}
+use Rattle.stored_options.proofs.Shapes.{stood}
 
 -- ---- whether it is set
 
@@ -74,9 +73,9 @@ counted pool f (Some v) vs e = ap (λ c. length (items (held_in pool f (Some c))
   by [] = refl
   by (u ∷ us) = ap suc (chained us)
 
--- ---- of a target in a fine message
+-- ---- of a target in a message of which all suits its type
 
-module _ (levels : ℕ) (old : DynamicMessage) (sound : IsSound old.descriptor.pool.now) (fine : IsFine levels old) (t : Target)
+module _ (levels : ℕ) (old : DynamicMessage) (sound : IsSound old.descriptor.pool.now) (shape : Exclusive (suc levels) old) (t : Target)
     (owns : OwnsTarget old.descriptor t) where
   abbrev d : MessageDescriptor
   d = old.descriptor
@@ -97,14 +96,14 @@ module _ (levels : ℕ) (old : DynamicMessage) (sound : IsSound old.descriptor.p
   pub set_seen : holds_many t ≡ false → steps.is_set old t ≡ is_set (view old f.number)
   set_seen one =
       ap (λ p. is_held p f (held_by old t)) (pool_is d sound.apart t owns)
-      ∙ seen_set one (held_by old t) (stood levels old sound fine t owns)
+      ∙ seen_set one (held_by old t) (stood levels old sound shape t owns)
       ∙ sym (ap is_set (under_target d sound.apart t owns old refl))
 
   -- the place of a further value
   listed : holds_list pool f ≡ true → count_held (held_by old t) ≡ length (items (view old f.number))
   listed is_list =
       let two = list_of_many pool f is_list in
-      let held = list_before (Exclusive levels) pool f two.1 is_list (held_by old t) (stood levels old sound fine t owns) in
+      let held = list_before (Exclusive levels) pool f two.1 is_list (held_by old t) (stood levels old sound shape t owns) in
       ap (λ (o : Option (List Value)). elim o [ None ↦ 0 | Some vs ↦ length vs ]) held.1
       ∙ sym (ap (λ h. length (items h)) (under_target d sound.apart t owns old refl) ∙ counted pool f (held_by old t) held.0 held.1)
 

@@ -2,6 +2,7 @@
 -- number, and what is put back there is assigned to the number.
 use Rattle.std.proofs.Common.{◌≡◌, ◌≢◌, ◌⊎◌, inl, inr, ℕ, suc, ◌==◌, Bool, true, false, true≢false, cond, Option, Some, option_map, refl, sym, ap, ◌∙◌, subst}
 use mathlib.Core.Path.{fun_ext}
+use Rattle.message_view.specs.Shaped.{Exclusive}
 use Rattle.message_view.specs.Sound.{AreApart, IsSound}
 use Rattle.message_view.specs.Types.{field_at, frame_of, kind_in, name_at, types_of}
 use Rattle.message_view.specs.Views.{content_view, held_in, view}
@@ -32,11 +33,10 @@ use Rattle.text_view.proofs.Once.{one_of, put_assigned}
 use Rattle.text_view.proofs.Owned.{OwnsTarget, under_target}
 use Rattle.text_view.proofs.Puts.{message_is, number_is, one_part}
 use Rattle.text_view.proofs.Set.{unset_absent}
-use Rattle.stored_options.proofs.Fine.{IsFine}
 use Rattle.stored_options.proofs.Owning.{left_exclusive, left_type}
-use Rattle.stored_options.proofs.Putting.{unset_so}
-use Rattle.stored_options.proofs.Saying.{leads_fine}
 use Rattle.stored_options.proofs.Held.{set_seen}
+use Rattle.stored_options.proofs.Inner.{leads_shape}
+use Rattle.stored_options.proofs.Shapes.{unset_so}
 
 -- what stood under the number does not count
 assigned_over : (type : ℕ → Option Field) (n : ℕ) (h : Held) (a b : Message) → ((q : ℕ) → q ≢ n → a q ≡ b q) → assign type n h a ≡ assign type n h b
@@ -45,7 +45,7 @@ assigned_over type n h a b others = fun_ext (λ q. by q (q == n) refl) where
   by q true is = ap (λ e. cond e h (cond (rival type n q) absent (a q))) is ∙ sym (ap (λ e. cond e h (cond (rival type n q) absent (b q))) is)
   by q false is = ap (λ x. cond (q == n) h (cond (rival type n q) absent x)) (others q (λ e. true≢false (sym (number_is q n e) ∙ is)))
 
-module _ (levels : ℕ) (old : DynamicMessage) (sound : IsSound old.descriptor.pool.now) (fine : IsFine (suc levels) old) (t : Target)
+module _ (levels : ℕ) (old : DynamicMessage) (sound : IsSound old.descriptor.pool.now) (shape : Exclusive (suc (suc levels)) old) (t : Target)
     (owns : OwnsTarget old.descriptor t) (left inner : DynamicMessage) (leads : LeadsInto t old left inner) where
   abbrev d : MessageDescriptor
   d = old.descriptor
@@ -60,7 +60,7 @@ module _ (levels : ℕ) (old : DynamicMessage) (sound : IsSound old.descriptor.p
   none = one_of d sound.apart t owns leads.one
 
   pub inner_kind : IsKind old.descriptor.pool.now (values.Message inner.descriptor) (target_type t).kind
-  inner_kind = (leads_fine levels old sound fine t owns leads.one left inner leads).1
+  inner_kind = (leads_shape levels old sound shape t owns leads.one left inner leads).1
 
   pub inner_label : (target_field old.descriptor t).label ≡ one
   inner_label = target_label d t ∙ label_one pool f none.0 none.1
@@ -82,7 +82,7 @@ module _ (levels : ℕ) (old : DynamicMessage) (sound : IsSound old.descriptor.p
         ∙ ap (λ x. held_in pool f (Some x)) (message_seen (held.Message inner) inner (message_is inner)))
     by (c, of, inr (unset, same_type, empty)) =
         let not_set : model.is_set (held_in pool f (option_map content_view (held_by old t))) ≡ false =
-        sym (ap model.is_set under) ∙ sym (set_seen (suc levels) old sound fine t owns leads.one) ∙ unset in
+        sym (ap model.is_set under) ∙ sym (set_seen (suc levels) old sound shape t owns leads.one) ∙ unset in
         let here : view old f.number ≡ absent = under ∙ unset_absent pool f (option_map content_view (held_by old t)) not_set in
         let none_seen : nothing ≡ view inner = sym (fun_ext (empty_view inner empty)) in
         ap message_in here ∙ none_seen
@@ -98,12 +98,12 @@ module _ (levels : ℕ) (old : DynamicMessage) (sound : IsSound old.descriptor.p
     put : view new ≡ put_by left.descriptor
     put =
         put_assigned left new (subst (λ (c : MessageDescriptor). AreApart c.pool.now) (sym its_type) sound.apart) t (subst (λ (c : MessageDescriptor). OwnsTarget c t) (sym its_type) owns)
-        (subst (λ (c : MessageDescriptor). holds_map c.pool.now f ≡ false) (sym its_type) none.0) (held.Message set) (inr (set, refl)) (left_exclusive t old left leads.taken fine.shape.1)
+        (subst (λ (c : MessageDescriptor). holds_map c.pool.now f ≡ false) (sym its_type) none.0) (held.Message set) (inr (set, refl)) (left_exclusive t old left leads.taken shape.1)
         (type ∙ sym its_type) puts
 
     pub put_back : view new ≡ assign (types_of old.descriptor.pool.now (name_at old.descriptor.pool.now old.descriptor.index)) (target_type t).number (content (message (view set))) (view old)
     put_back =
         put ∙ ap put_by its_type
         ∙ ap (λ x. assign (field_at pool d.index) f.number (settled (target_field d t).part x) (view left)) (message_seen (held.Message set) set (message_is set))
-        ∙ assigned_over (field_at pool d.index) f.number (content (message (view set))) (view left) (view old) (unset_so (suc levels) old sound fine left t owns leads.taken).others
+        ∙ assigned_over (field_at pool d.index) f.number (content (message (view set))) (view left) (view old) (unset_so (suc levels) old sound shape left t owns leads.taken).others
         ∙ ap (λ fs. assign fs f.number (content (message (view set))) (view old)) (sym (types_are pool sound.names d refl))

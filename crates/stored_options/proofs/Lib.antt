@@ -6,6 +6,12 @@ pub mod Again
 pub mod StoredTruths
 pub mod Refusals
 pub mod Owning
+pub mod Shapes
+pub mod SaidFits
+pub mod Inner
+pub mod MapShape
+pub mod EachStep
+pub mod ShapeAlong
 pub mod OwnTruth
 pub mod Copied
 pub mod Linking
@@ -27,6 +33,14 @@ pub mod Held
 pub mod Given
 pub mod Into
 pub mod SetAlong
+pub mod SameMeaning
+pub mod OneTarget
+pub mod MapTwice
+pub mod SetTwice
+pub mod Unsaid
+pub mod Excluded
+pub mod StoredTwice
+pub mod RefusedOptions
 pub mod OfSources
 pub mod Built
 pub mod Unplaced
@@ -35,6 +49,8 @@ pub mod Seen
 pub mod Placed
 pub mod Entries
 pub mod LooksUp
+pub mod SameScopes
+pub mod RefusedFiles
 pub mod Pool
 pub mod OneName
 pub mod Numbers

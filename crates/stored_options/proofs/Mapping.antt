@@ -4,12 +4,10 @@ use Rattle.std.specs.List.{AllByRecursion}
 use Rattle.texts_view.proofs.Given.{value_known}
 use Rattle.texts_view.proofs.Known.{add_all_known}
 use Rattle.known_messages.specs.KnownMessages.{KnowsAll, KnowsContent, KnowsHeld}
-use Rattle.message_view.specs.Shaped.{Exclusive, FitsAs, FitsShaped}
 use Rattle.message_view.specs.Singles as views
 use Rattle.message_view.specs.Sound.{IsSound}
 use Rattle.message_view.specs.Types.{entry_part, key_of, name_at, part_of, place_in, types_of}
 use Rattle.message_view.specs.Views.{content_view, view}
-use Rattle.message_view.proofs.Changed.{nothing_shaped}
 use Rattle.message_view.proofs.Fields.{none_owned}
 use Rattle.message_view.proofs.Seen.{message_seen}
 use Rattle.message_view.proofs.Sound.{found_at}
@@ -21,17 +19,15 @@ use Rattle.protobuf_model.specs.Values.{Message, Single, blob, enumerated, int32
 use Rattle.protobuf_model.proofs.Merging.{nothing_typed}
 use Rattle.protox_lex.specs.Class.{Text}
 use Rattle.reflect_extend.specs.Gives.{Entry}
-use Rattle.reflect_extend.specs.Puts.{PutsAll}
 use Rattle.reflect_format.specs.Steps.{AddsValues, held_by}
-use Rattle.reflect_format.specs.Takes.{target_pool, target_type}
+use Rattle.reflect_format.specs.Takes.{target_type}
 use Rattle.reflect_format.specs.declared.target.Target.{Target}
 use Rattle.reflect_format.specs.declared.target.Target.TheVariants as targets
-use Rattle.reflect_message.specs.Contents.{content_of}
 use Rattle.reflect_message.specs.Known.{holds_floats}
 use Rattle.reflect_message.specs.Maps.{entries_held}
 use Rattle.reflect_message.specs.Names.{DynamicMessage, Value}
 use Rattle.reflect_message.specs.declared.value.ValueOf.TheVariants as held
-use Rattle.reflect_pool.specs.Shapes.{holds_list, holds_map}
+use Rattle.reflect_pool.specs.Shapes.{holds_map}
 use Rattle.reflect_pool.specs.declared.message.MessageDescriptor.{MessageDescriptor}
 use Rattle.reflect_scalar.specs.FieldTypes.{extension_type}
 use Rattle.reflect_scalar.specs.Keys.{key_view}
@@ -51,17 +47,15 @@ use Rattle.text_view.specs.Targets.{target_field}
 use Rattle.text_view.proofs.Adds.{label_keyed, target_label, types_are}
 use Rattle.text_view.proofs.Apart.{no_field_there}
 use Rattle.text_view.proofs.Given.{target_part, the_entry, value_no_float}
-use Rattle.text_view.proofs.Kept.{add_leaves, many_map}
-use Rattle.text_view.proofs.MapShapes.{AllValues, entries_fit, map_after}
 use Rattle.text_view.proofs.Maps.{map_added}
-use Rattle.text_view.proofs.Owned.{OwnsTarget, pool_is, target_whole}
+use Rattle.text_view.proofs.Owned.{OwnsTarget}
 use Rattle.text_view.proofs.Puts.{message_is}
-use Rattle.text_view.proofs.Shaped.{IsShapely, shape_kept, shapely, target_number}
+use Rattle.text_view.proofs.Shaped.{target_number}
 use Rattle.text_view.proofs.SoundTypes.{sound_types}
-use Rattle.text_view.proofs.Steady.{stays}
 use Rattle.text_view.proofs.Wanted.{entry_under}
 use Rattle.stored_options.proofs.Fine.{IsFine}
-use Rattle.stored_options.proofs.Putting.{added_unknown, ascends, before, fine_so, has, stood}
+use Rattle.stored_options.proofs.MapShape.{entry_map, entry_sound, entry_whole, held_entries, map_shape}
+use Rattle.stored_options.proofs.Putting.{fine_so, has}
 
 -- ---- keys
 
@@ -102,9 +96,6 @@ module _ (levels : ℕ) (old : DynamicMessage) (sound : IsSound old.descriptor.p
   abbrev f : FieldType
   f = target_type t
 
-  abbrev inner : DynamicMessage → Type 0
-  inner = Exclusive (suc levels)
-
   abbrev vs : List Value
   vs = held.Message m ∷ []
 
@@ -115,47 +106,26 @@ module _ (levels : ℕ) (old : DynamicMessage) (sound : IsSound old.descriptor.p
   name = name_at old.descriptor.pool.now old.descriptor.index
 
   c_sound : IsSound c.pool.now
-  c_sound = subst IsSound (sym at) sound
+  c_sound = entry_sound d sound t owns is_map c at
 
   c_map : holds_map c.pool.now f ≡ true
-  c_map = subst (λ p. holds_map p f ≡ true) (sym at) is_map
+  c_map = entry_map d sound t owns is_map c at
 
   c_whole : holds_floats c.pool.now f ≡ false
-  c_whole = subst (λ p. holds_floats p f ≡ false) (sym at) (target_whole d sound.apart t owns)
-
-  t_map : holds_map (target_pool t) f ≡ true
-  t_map = subst (λ p. holds_map p f ≡ true) (sym (pool_is d sound.apart t owns)) is_map
-
-  -- ---- its shape
-
-  values_fit : (before after : List (MapKey × Value)) → AllValues inner pool f.kind before → PutsAll before after vs → AllValues inner pool f.kind after
-  values_fit =
-      let shape = subst (λ (c : MessageDescriptor). IsShapely inner c.pool.now c.index (content_of m)) same (shapely inner m.descriptor (content_of m) entry.shape.0) in
-      subst (λ p. (before after : List (MapKey × Value)) → AllValues inner p f.kind before → PutsAll before after vs → AllValues inner p f.kind after) at
-      (entries_fit inner (nothing_shaped true levels) c f kind c_sound c_map c_whole vs ((m, refl, same, shape), tt))
-
-  after : IsShapely inner pool d.index (content_of new)
-  after =
-      let order = adds.4 (ascends (suc levels) old sound fine) in
-      shape_kept inner d sound.apart t owns (target_number d sound.numbers t owns) old new (add_leaves t old new adds.0 (adds.5 (many_map t t_map))) (added_unknown (suc levels) old sound fine new type t owns t vs adds) order.0 order.1
-      (map_after inner pool f is_map (held_by old t) (held_by new t) vs (stood (suc levels) old sound fine t owns) (adds.2 t_map) values_fit) (before (suc levels) old sound fine)
+  c_whole = entry_whole d sound t owns is_map c at
 
   -- ---- what it held
 
-  were : (o : Option Value) → ((v : Value) → o ≡ Some v → FitsShaped inner pool f v) → (es : List (MapKey × Value)) × (entries_held o ≡ Some es)
-  were None h = ([], refl)
-  were (Some v) h = let its = subst (λ b. FitsAs inner pool f b (holds_list pool f) v) is_map (h v refl) in (its.0, its.1)
-
-  held_entries : (es : List (MapKey × Value)) × (entries_held (held_by old t) ≡ Some es)
-  held_entries = were (held_by old t) (stood (suc levels) old sound fine t owns)
+  stood_entries : (es : List (MapKey × Value)) × (entries_held (held_by old t) ≡ Some es)
+  stood_entries = held_entries (suc levels) old sound fine.shape t owns is_map
 
   keys : (t : Target) → OwnsTarget d t → holds_map pool (target_type t) ≡ true → (es : List (MapKey × Value))
       → entries_held (held_by old t) ≡ Some es → AllByRecursion (HasKey pool (target_type t)) es
   keys (targets.Field g) owns so es is = field_keys (suc levels) old sound fine.typed g owns so es is
   keys (targets.Extension x) owns so es is = extension_keys (suc levels) old sound fine.typed x owns (none_owned d (extension_type x).number (no_field_there d sound.apart x owns)) so es is
 
-  formed : HaveKeys (views.scalar_of (entry_part pool f 1).kind) held_entries.0
-  formed = keys_formed pool f held_entries.0 (keys t owns is_map held_entries.0 held_entries.1)
+  formed : HaveKeys (views.scalar_of (entry_part pool f 1).kind) stood_entries.0
+  formed = keys_formed pool f stood_entries.0 (keys t owns is_map stood_entries.0 stood_entries.1)
 
   -- ---- what is seen of it
 
@@ -178,7 +148,7 @@ module _ (levels : ℕ) (old : DynamicMessage) (sound : IsSound old.descriptor.p
   map_seen =
       let e = the_entry c f kind c_sound c_map c_whole in
       ap (λ fs. add_all fs f.number its_field.part its_field.label (view old) (content_view (held.Message m) ∷ [])) (types_are pool sound.names d refl)
-      ∙ (map_added old new sound.apart type t owns is_map fine.shape.1 c at kind c_sound e.0 e.1 (value_no_float c f kind c_sound c_map c_whole) vs ((m, refl, same, kinds_held), tt) held_entries.0 held_entries.1 formed adds).0
+      ∙ (map_added old new sound.apart type t owns is_map fine.shape.1 c at kind c_sound e.0 e.1 (value_no_float c f kind c_sound c_map c_whole) vs ((m, refl, same, kinds_held), tt) stood_entries.0 stood_entries.1 formed adds).0
 
   -- ---- the entry suits the map
 
@@ -232,4 +202,4 @@ module _ (levels : ℕ) (old : DynamicMessage) (sound : IsSound old.descriptor.p
       (subst (λ x. KnowsContent its_types its_part.kind (entry_of key its_part x).1) (sym entry_seen) value, tt) map_seen
 
   pub map_fine : IsFine (suc levels) new
-  map_fine = fine_so (suc levels) old sound fine new type after (stays t old new owns adds.3 fine.shape.1) new_typed new_known
+  map_fine = fine_so (suc levels) old sound fine new type (map_shape levels old sound fine.shape new type t owns is_map c at kind m same entry.shape adds) new_typed new_known

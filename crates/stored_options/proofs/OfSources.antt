@@ -44,9 +44,11 @@ use Rattle.set_view.specs.Puts.{IsUnset}
 use Rattle.settled_records.proofs.Kept.{type_kept}
 use Rattle.settled_records.proofs.Stored.{list_unset}
 use Rattle.stored_options.proofs.Again.{list_field, stored_view}
-use Rattle.stored_options.proofs.Along.{HaveFewBits, above, all_fine}
+use Rattle.stored_options.proofs.Along.{HaveFewBits, all_fine}
 use Rattle.stored_options.proofs.Fine.{IsFine}
-use Rattle.stored_options.proofs.Putting.{left_fine, unset_so}
+use Rattle.stored_options.proofs.Putting.{left_fine}
+use Rattle.stored_options.proofs.EachStep.{above}
+use Rattle.stored_options.proofs.Shapes.{unset_so}
 use Rattle.stored_options.proofs.Scoped.{named_type, of_name, option_type, type_sound}
 use Rattle.stored_options.proofs.Sources.{all_few}
 use Rattle.text_view.specs.Schemas.{schema_of}
@@ -137,7 +139,7 @@ module _ (scope : OptionScope) (s : NameScope) (o settled : Options) (paths : Li
   taken = subst (λ n. UpdatesField set whole n None) (sym list.2) unset
 
   left : IsUnset 999 (view set) (view whole)
-  left = subst (λ n. IsUnset n (view set) (view whole)) list.2 (unset_so top set set_sound set_fine whole (targets.Field list.0) list.1 taken)
+  left = subst (λ n. IsUnset n (view set) (view whole)) list.2 (unset_so top set set_sound set_fine.shape whole (targets.Field list.0) list.1 taken)
 
   whole_seen : view set ≡ view whole
   whole_seen = fun_ext (λ n. by n (eqb_tells n 999)) where

@@ -15,7 +15,7 @@ use Rattle.text_model.specs.Value.{value}
 
 -- ---- what an option says, and what a field gets
 
-says_one : (w : Schema) (o : OptionContent) (wanted : Wanted) (c d : Content) → Says w o wanted c → Says w o wanted d → c ≡ d
+pub says_one : (w : Schema) (o : OptionContent) (wanted : Wanted) (c d : Content) → Says w o wanted c → Says w o wanted d → c ≡ d
 says_one w o (of_scalar enum k) c d a b = same_Some c d (sym a ∙ b)
 says_one w o (of_message s) c d (z, tree, m, at, text, gives, is) (y, other, n, also, reads, given, same) =
     let one_z : z ≡ y = same_Some z y (sym at ∙ also) in
@@ -23,7 +23,7 @@ says_one w o (of_message s) c d (z, tree, m, at, text, gives, is) (y, other, n, 
     let messages : m ≡ n = same_Some m n (sym gives ∙ ap (λ (fs : Fields). value w s fs nothing) trees ∙ given) in
     is ∙ ap message messages ∙ sym same
 
-gets_one : (type : ℕ → Option Field) (n : ℕ) (f : Field) (l : Label) (c : Content) (old new other : Message) → Gets type n f l c old new → Gets type n f l c old other → new ≡ other
+pub gets_one : (type : ℕ → Option Field) (n : ℕ) (f : Field) (l : Label) (c : Content) (old new other : Message) → Gets type n f l c old new → Gets type n f l c old other → new ≡ other
 gets_one type n f one c old new other a b = a.1 ∙ sym b.1
 gets_one type n f (many packed) c old new other a b = same_Some new other (sym a ∙ b)
 gets_one type n f (keyed key) c old new other a b = same_Some new other (sym a ∙ b)

@@ -35,7 +35,7 @@ use Rattle.stored_options.proofs.Again.{no_items, same_bytes, same_type, short}
 use Rattle.stored_options.proofs.Scoped.{of_type, option_type, type_sound}
 use Rattle.stored_options.proofs.StoredTruths.{stored_truth}
 
-none_there : (place : ℕ) (os : List UninterpretedOption) (x : UninterpretedOption) → os ≡ [] → slice_get os place ≡ Some x → ⊥
+pub none_there : (place : ℕ) (os : List UninterpretedOption) (x : UninterpretedOption) → os ≡ [] → slice_get os place ≡ Some x → ⊥
 none_there place os x none e = cc (sym (ap (λ os. slice_get os place) none) ∙ e)
 
 -- what is forbidden is there

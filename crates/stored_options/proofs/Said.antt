@@ -90,7 +90,7 @@ module _ (decoded : Name → Text → Option Message) (o : OptionContent) where
     abbrev ReadsIt : KindType → Type 0
     ReadsIt t = Says (schema_of pool decoded) o (wanted_in (schema_of pool decoded) (number_in pool t) (kind_in pool group t)) (content_view v)
 
-    kind_says : (k : Kind) (t : KindType) → IsKind pool k t → IsSaid k o v → ReadsIt t
+    pub kind_says : (k : Kind) (t : KindType) → IsKind pool k t → IsSaid k o v → ReadsIt t
     kind_says (values.Message c) t is s =
         subst ReadsIt (sym is.1)
         (subst (Says (schema_of pool decoded) o (of_message (shape_of (schema_of pool decoded) (name_at pool c.index)))) (sym (message_content s.0 v s.2))

@@ -1,6 +1,6 @@
 -- The value that an option says suits what it is said to, and so does a message that a part of its
 -- name leads into.
-use Rattle.std.proofs.Common.{◌≡◌, ◌⊎◌, inl, inr, ℕ, suc, ◌≤◌, Bool, false, Some, option_map, unwrap_or, refl, sym, ap, ◌∙◌, subst}
+use Rattle.std.proofs.Common.{◌≡◌, ◌⊎◌, inl, inr, ℕ, suc, ◌≤◌, false, Some, option_map, refl, sym, ap, ◌∙◌, subst}
 use Rattle.descriptor_records.specs.Content.{OptionContent}
 use Rattle.known_messages.specs.KnownMessages.{KnowsAll, KnowsContent, KnowsHeld}
 use Rattle.message_view.specs.Shaped.{Exclusive}
@@ -15,14 +15,11 @@ use Rattle.protobuf_model.specs.Scalars.{Suits}
 use Rattle.protobuf_model.specs.Typed.{IsFieldOf, IsHeldOf, IsOf, IsTyped, IsTypedBy}
 use Rattle.protobuf_model.specs.Types.{Name, Part, Types, nested, one, scalar}
 use Rattle.protobuf_model.specs.Values.{Single, content, message}
-use Rattle.reflect_decode.proofs.Telling.{both_kinds}
 use Rattle.reflect_format.specs.Kinds.{single_of}
 use Rattle.reflect_format.specs.Steps.{held_by, is_set}
 use Rattle.reflect_format.specs.Takes.{holds_many, target_pool, target_type}
 use Rattle.reflect_format.specs.declared.target.Target.{Target}
 use Rattle.reflect_message.specs.Contents.{content_of, nothing}
-use Rattle.reflect_message.specs.KindTypes.{IsMessageType, IsScalarType}
-use Rattle.reflect_message.specs.Messages.{message_in}
 use Rattle.reflect_message.specs.Names.{DynamicMessage, Value}
 use Rattle.reflect_message.specs.declared.value.ValueOf.TheVariants as held
 use Rattle.reflect_pool.specs.Kinds.{IsKind}
@@ -30,19 +27,19 @@ use Rattle.reflect_pool.specs.Shapes.{holds_list, holds_map}
 use Rattle.reflect_pool.specs.declared.kind.Kind.{Kind}
 use Rattle.reflect_pool.specs.declared.kind.Kind.TheVariants as values
 use Rattle.reflect_pool.specs.declared.message.MessageDescriptor.{MessageDescriptor}
-use Rattle.reflect_tables.specs.Types.{FieldType, KindType, PoolType}
+use Rattle.reflect_tables.specs.Types.{FieldType, PoolType}
 use Rattle.text_view.specs.Targets.{target_field}
 use Rattle.text_view.specs.Values.{IsOne}
 use Rattle.text_view.proofs.Adds.{label_one, target_label}
 use Rattle.text_view.proofs.Given.{target_part}
 use Rattle.text_view.proofs.Once.{one_of}
-use Rattle.text_view.proofs.Owned.{OwnsTarget, pool_is, under_target}
+use Rattle.text_view.proofs.Owned.{OwnsTarget, under_target}
 use Rattle.text_view.proofs.Puts.{message_is, one_part}
 use Rattle.text_view.proofs.Scalars.{content_is}
-use Rattle.text_view.proofs.Set.{singled}
-use Rattle.text_view.proofs.Shaped.{single_fits}
 use Rattle.stored_options.proofs.Fine.{IsFine, empty_fine, made_fine, made_type}
-use Rattle.stored_options.proofs.Putting.{IsSuited, has, stood}
+use Rattle.stored_options.proofs.Inner.{leads_shape}
+use Rattle.stored_options.proofs.Putting.{IsSuited, has}
+use Rattle.stored_options.proofs.SaidFits.{IsPlainKind, fits_as_message, fits_as_single, plain_kind}
 use Rattle.stored_options.proofs.SaidSuits.{HasFewBits, said_suits}
 
 -- ---- a message
@@ -62,7 +59,7 @@ module _ (levels : ℕ) (pool : PoolType) (f : FieldType) (m : DynamicMessage) (
 
   pub message_suited : IsSuited (suc levels) pool f (held.Message m)
   message_suited = record {
-    fits = record { plain = λ type. absurd (subst IsScalarType is.1 type); nested = λ type. (m, message_is m, is, fine.shape) };
+    fits = fits_as_message (Exclusive (suc levels)) pool f m is fine.shape;
     typed = subst (λ k. IsOf (IsTyped (suc levels) (types_of pool)) k (content_view (held.Message m))) (sym its_kind)
         (subst (IsOf (IsTyped (suc levels) (types_of pool)) (nested (frame_of f.group) (name_at pool m.descriptor.index))) (sym its_content) typed);
     known = subst (λ k. KnowsContent (types_of pool) k (content_view (held.Message m))) (sym its_kind)
@@ -71,21 +68,11 @@ module _ (levels : ℕ) (pool : PoolType) (f : FieldType) (m : DynamicMessage) (
 
 -- ---- a single value
 
-abbrev IsPlainKind : PoolType → Bool → KindType → Type 0
-IsPlainKind pool g t = (kind_in pool g t ≡ scalar (views.scalar_of t)) × IsScalarType t
-
-plain_kind : (pool : PoolType) (g : Bool) (k : Kind) (t : KindType) → IsKind pool k t → (o : OptionContent) (x : Single) → said k o ≡ Some x → IsPlainKind pool g t
-plain_kind pool g (values.Message d) t is o x e = absurd (cc e)
-plain_kind pool g (values.Enum d) t is o x e = subst (IsPlainKind pool g) (sym is.1) (refl, tt)
-plain_kind pool g values.Double t is o x e = absurd (cc e)
-plain_kind pool g values.Float t is o x e = absurd (cc e)
-plain_kind pool g k t is o x e = subst (IsPlainKind pool g) (sym is) (refl, tt)
-
 module _ (levels : ℕ) (pool : PoolType) (f : FieldType) (v : Value) (x : Single) (plain : IsPlainKind pool f.group f.kind)
     (given : single_of v ≡ Some x) (suits : Suits (views.scalar_of f.kind) x) where
   single_suited : IsSuited levels pool f v
   single_suited = record {
-    fits = record { plain = λ type. let w = singled v x given in (w.0, w.1); nested = λ type. absurd (both_kinds f.kind plain.1 type) };
+    fits = fits_as_single (Exclusive levels) pool f v x plain.1 given;
     typed = subst (λ k. IsOf (IsTyped levels (types_of pool)) k (content_view v)) (sym plain.0) (subst (IsOf (IsTyped levels (types_of pool)) (scalar (views.scalar_of f.kind))) (sym (content_is v x given)) suits);
     known = subst (λ k. KnowsContent (types_of pool) k (content_view v)) (sym plain.0) (subst (KnowsContent (types_of pool) (scalar (views.scalar_of f.kind))) (sym (content_is v x given)) tt);
   }
@@ -120,19 +107,9 @@ module _ (levels : ℕ) (old : DynamicMessage) (sound : IsSound old.descriptor.p
   abbrev f : FieldType
   f = target_type t
 
-  none : (holds_map pool f ≡ false) × (holds_list pool f ≡ false)
-  none = one_of old.descriptor sound.apart t owns one_value
-
-  module _ (inner : DynamicMessage) (type : IsMessageType f.kind) (at : held_by old t ≡ Some (held.Message inner)) where
-    -- it was held by a message that is fine
-    stands : (m : DynamicMessage) × (message_in (held.Message inner) ≡ Some m) × IsKind pool (values.Message m.descriptor) f.kind × Exclusive (suc levels) m
-    stands = (single_fits (Exclusive (suc levels)) pool f (held.Message inner) none.0 none.1 (stood (suc levels) old sound fine t owns (held.Message inner) at)).nested type
-
-    same : stands.0 ≡ inner
-    same = ap (λ o. unwrap_or o inner) (sym stands.1 ∙ message_is inner)
-
-    kind : IsKind pool (values.Message inner.descriptor) f.kind
-    kind = subst (λ (m : DynamicMessage). IsKind pool (values.Message m.descriptor) f.kind) same stands.2
+  module _ (inner : DynamicMessage) (shape : Exclusive (suc levels) inner) (kind : IsKind pool (values.Message inner.descriptor) f.kind) (at : held_by old t ≡ Some (held.Message inner)) where
+    none : (holds_map pool f ≡ false) × (holds_list pool f ≡ false)
+    none = one_of old.descriptor sound.apart t owns one_value
 
     abbrev types : Types
     types = types_of pool
@@ -173,17 +150,17 @@ module _ (levels : ℕ) (old : DynamicMessage) (sound : IsSound old.descriptor.p
 
     inner_fine : IsFine levels inner
     inner_fine = record {
-      shape = subst (Exclusive (suc levels)) same stands.3;
+      shape = shape;
       typed = subst (λ p. IsTyped (suc levels) (types_of p) (name_at p inner.descriptor.index) (view inner)) (sym kind.0) inner_typed;
       known = subst (λ p. KnowsAll (types_of p) (name_at p inner.descriptor.index) (view inner)) (sym kind.0) inner_known;
     }
 
   pub leads_fine : (left inner : DynamicMessage) → LeadsInto t old left inner → IsFine levels inner × IsKind pool (values.Message inner.descriptor) f.kind
-  leads_fine left inner leads = by leads.kind where
+  leads_fine left inner leads = (by leads.kind, led.1) where
+    led : Exclusive (suc levels) inner × IsKind pool (values.Message inner.descriptor) f.kind
+    led = leads_shape levels old sound fine.shape t owns one_value left inner leads
+
     by : (d : MessageDescriptor) × IsKind (target_pool t) (values.Message d) f.kind × ((held_by old t ≡ Some (held.Message inner)) ⊎ ((is_set old t ≡ false) × (inner.descriptor ≡ d) × (content_of inner ≡ nothing)))
-        → IsFine levels inner × IsKind pool (values.Message inner.descriptor) f.kind
-    by (d, of, inl at) =
-        let type = subst IsMessageType (sym of.1) tt in
-        (inner_fine inner type at, kind inner type at)
-    by (d, of, inr (unset, same_type, empty)) =
-        (empty_fine levels inner empty, subst (λ c. IsKind pool (values.Message c) f.kind) (sym same_type) (subst (λ p. IsKind p (values.Message d) f.kind) (pool_is old.descriptor sound.apart t owns) of))
+        → IsFine levels inner
+    by (d, of, inl at) = inner_fine inner led.0 led.1 at
+    by (d, of, inr (unset, same_type, empty)) = empty_fine levels inner empty

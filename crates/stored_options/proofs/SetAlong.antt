@@ -1,5 +1,5 @@
 -- Options that are set one after another set what they set in the model.
-use Rattle.std.proofs.Common.{◌≡◌, ℕ, ℤ, zero, suc, ◌≤◌, List, [], ◌∷◌, map, Option, Some, refl, sym, ap, ◌∙◌, subst, arith}
+use Rattle.std.proofs.Common.{◌≡◌, ℕ, ℤ, zero, suc, List, [], ◌∷◌, map, Option, Some, refl, sym, ap, ◌∙◌, subst}
 use Rattle.descriptor_records.specs.Content.{OptionContent, name_view, option_view}
 use Rattle.descriptor_records.specs.declared.options.NamePart.{NamePart}
 use Rattle.descriptor_records.specs.declared.options.UninterpretedOption.{UninterpretedOption}
@@ -23,17 +23,14 @@ use Rattle.text_model.specs.Value.{assign}
 use Rattle.text_view.specs.Schemas.{schema_of}
 use Rattle.text_view.specs.Targets.{target_field}
 use Rattle.text_view.proofs.Owned.{target_there}
-use Rattle.stored_options.proofs.Along.{HaveFewBits, above, all_fine}
+use Rattle.stored_options.proofs.Along.{HaveFewBits, all_fine}
 use Rattle.stored_options.proofs.Fine.{IsFine}
 use Rattle.stored_options.proofs.Owning.{leads_whole, named_owns}
 use Rattle.stored_options.proofs.Saying.{leads_fine}
 use Rattle.stored_options.specs.NamedNumbers.{numbers_named}
 use Rattle.stored_options.proofs.Given.{last_set}
+use Rattle.stored_options.proofs.EachStep.{above, above_least}
 use Rattle.stored_options.proofs.Into.{inner_kind, inner_label, inner_message, inner_part, put_back}
-
-above_least : (levels : ℕ) → 100 ≤ above levels
-above_least zero = omega arith
-above_least (suc levels) = let h = above_least levels in omega (arith, h)
 
 module _ (s : NameScope) (decoded : Name → Text → Option Message) where
   abbrev w : Schema
@@ -60,7 +57,7 @@ module _ (s : NameScope) (decoded : Name → Text → Option Message) where
       let owns = named_owns s d sound.apart part t sets.2 sets.3.no_floats in
       subst (λ p. model.SetsLast (schema_of p decoded) leads o (name_at p d.index) (name_view part) (view old) (view new) path) at
       (subst (model.SetsLast (schema_of d.pool.now decoded) leads o (name_at d.pool.now d.index) (name_view part) (view old) (view new)) (sym sets.4)
-      (last_set o (above levels) (above_least levels) old new sound fine t owns sets.1 sets.3 decoded s at part sets.2))
+      (last_set o (above levels) old new sound fine.shape t owns sets.1 sets.3 (above_least levels) fine decoded s at part sets.2))
   parts_set o zero (part ∷ next ∷ parts) old new path sound at sets fine = absurd sets
   parts_set o (suc levels) (part ∷ next ∷ parts) old new path sound at sets fine =
       let d = old.descriptor in
@@ -72,7 +69,7 @@ module _ (s : NameScope) (decoded : Name → Text → Option Message) where
       let n : ℕ = (target_type t).number in
       let top : ℕ = suc (above levels) in
       let owns = named_owns s d sound.apart part t sets.5 (leads_whole t old left inner lead) in
-      let kind = inner_kind top old sound fine t owns left inner lead in
+      let kind = inner_kind top old sound fine.shape t owns left inner lead in
       let below =
       parts_set o levels (next ∷ parts) inner set sets.1 (subst IsSound (sym kind.0) sound) (kind.0 ∙ at) sets.7
       (leads_fine top old sound fine t owns lead.one left inner lead).0 in (
@@ -83,14 +80,14 @@ module _ (s : NameScope) (decoded : Name → Text → Option Message) where
           frame = frame_of (target_type t).group;
           led = record { of_type = d; target = t; written = part; in_pool = at; called = ap (λ p. name_at p d.index) at; same_part = refl; named = sets.5; number = refl };
           declared = subst (λ p. types_of p (name_at p d.index) n ≡ Some (target_field d t)) at (named d.pool.now sound.names d.index n d.in_range ∙ target_there d sound.apart t owns);
-          alone = inner_label top old sound fine t owns left inner lead;
-          kind = inner_part top old sound fine t owns left inner lead ∙ ap (λ p. nested (frame_of (target_type t).group) (name_at p inner.descriptor.index)) at;
+          alone = inner_label top old sound fine.shape t owns left inner lead;
+          kind = inner_part top old sound fine.shape t owns left inner lead ∙ ap (λ p. nested (frame_of (target_type t).group) (name_at p inner.descriptor.index)) at;
         },
         view set,
         sets.1,
-        subst (λ m. model.SetsParts w leads o levels (called inner.descriptor) (map name_view (next ∷ parts)) m (view set) sets.1) (sym (inner_message top old sound fine t owns left inner lead)) below,
+        subst (λ m. model.SetsParts w leads o levels (called inner.descriptor) (map name_view (next ∷ parts)) m (view set) sets.1) (sym (inner_message top old sound fine.shape t owns left inner lead)) below,
         subst (λ p. view new ≡ assign (types_of p (name_at p d.index)) n (content (message (view set))) (view old)) at
-            (put_back top old sound fine t owns left inner lead set new sets.8 sets.9),
+            (put_back top old sound fine.shape t owns left inner lead set new sets.8 sets.9),
         sets.10,
       )
 

@@ -49,11 +49,13 @@ use Rattle.settled_records.proofs.Kept.{type_kept}
 use Rattle.settled_records.proofs.Stored.{list_unset}
 use Rattle.stored_options.specs.StoredOptions.{AreStored}
 use Rattle.stored_options.proofs.Again.{list_field, no_items, same_bytes, short, stored_view}
-use Rattle.stored_options.proofs.Along.{HaveFewBits, above, all_fine}
+use Rattle.stored_options.proofs.Along.{HaveFewBits, all_fine}
 use Rattle.stored_options.proofs.Fine.{IsFine}
 use Rattle.stored_options.proofs.Later.{of_an_entry}
 use Rattle.stored_options.proofs.Levels.{meaning_deeper}
-use Rattle.stored_options.proofs.Putting.{left_fine, unset_so}
+use Rattle.stored_options.proofs.Putting.{left_fine}
+use Rattle.stored_options.proofs.EachStep.{above}
+use Rattle.stored_options.proofs.Shapes.{unset_so}
 use Rattle.stored_options.proofs.SaidSuits.{HasFewBits}
 use Rattle.stored_options.proofs.Scoped.{named_type, of_name, option_type, type_sound}
 
@@ -171,7 +173,7 @@ module _ (scope : OptionScope) (s : NameScope) (o settled : Options) (paths : Li
     whole_fine = left_fine top set set_sound set_fine whole (targets.Field found.0) unset.same_type found.1 taken
 
     none_left : view whole 999 ≡ absent
-    none_left = subst (λ n. view whole n ≡ absent) found.2 (unset_so top set set_sound set_fine whole (targets.Field found.0) found.1 taken).here
+    none_left = subst (λ n. view whole n ≡ absent) found.2 (unset_so top set set_sound set_fine.shape whole (targets.Field found.0) found.1 taken).here
 
     whole_type : IsType scope s whole.descriptor
     whole_type = subst (IsType scope s) (sym (unset.same_type ∙ set_type)) type

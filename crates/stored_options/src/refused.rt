@@ -1,0 +1,36 @@
+//! Laws of options that are refused, each the contract of a function that does nothing.
+ghost use Rattle.std.specs.Prelude.{◌≡◌, ℕ, ℤ, List, Option};
+ghost use Rattle.descriptor_records.specs.Content.{OptionsContent};
+ghost use Rattle.descriptor_records.specs.declared.options.Options.{Options};
+ghost use Rattle.message_view.specs.Sound.{IsSound};
+ghost use Rattle.option_parts.specs.OptionTypes.{CanRead};
+ghost use Rattle.option_parts.specs.declared.option_error.OptionErrorKind.{OptionErrorKind};
+ghost use Rattle.option_parts.specs.declared.option_scope.OptionScope.{OptionScope};
+ghost use Rattle.option_setter.specs.declared.option_setter.NameScope.{NameScope};
+ghost use Rattle.reflect_names.specs.Faults.{Place};
+ghost use Rattle.reflect_options.specs.Settled.{RefusesOptions, Settles, StayAsTheyAre};
+ghost use Rattle.reflect_options.specs.Settling.{RefusesFrom, SettlesPool};
+ghost use Rattle.reflect_tables.specs.Types.{PoolType};
+ghost use Rattle.types_view.specs.Pools.{IsPool};
+
+/// Options that are refused cannot be settled: where a refusal is true of the options of a record,
+/// there is nothing that they settle to, wherever their messages lie in memory. Nor do they stay as
+/// they are.
+pub fn refused_options_are_not_settled()
+    ensures settled { (scope : OptionScope) (s : NameScope) (o : Options) (at : Option ℕ)
+        (e : OptionErrorKind) (settled : OptionsContent) (paths : List (List ℤ))
+        → IsSound s.pool.now → CanRead s.pool.now scope
+        → RefusesOptions scope s o at e → Settles scope s o settled paths → ⊥ }
+    ensures left { (scope : OptionScope) (s : NameScope) (o : Options) (at : Option ℕ)
+        (e : OptionErrorKind)
+        → RefusesOptions scope s o at e → StayAsTheyAre scope s o → ⊥ }
+{}
+
+/// And so it is of pools: where a refusal is true of the files from an index on, at a place or of a
+/// type of options, no pool is this one with the options of these files settled. What `IsPool` asks
+/// each pool has, as `pools_are_whole` says, and one that files were linked into is sound.
+pub fn refused_pools_are_not_settled()
+    ensures { (pool new : PoolType) (first : ℕ) (place : Option Place) (e : OptionErrorKind)
+        → IsPool pool → IsSound pool
+        → RefusesFrom pool first place e → SettlesPool pool first new → ⊥ }
+{}
