@@ -43,12 +43,15 @@ use Rattle.stored_options.proofs.Unsaid.{nothing_read}
 
 module _ (pool : PoolType) (sound : IsSound pool) (a b : DynamicMessage) (twins : AreTwins pool a b) (x y : Target) (same : target_type x ≡ target_type y)
     (place : target_pool x ≡ target_pool y) where
+  -- both hold many values, or neither
   many : holds_many x ≡ holds_many y
   many = λ i. holds_list (place i) (same i) || holds_map (place i) (same i)
 
+  -- and floating-point numbers
   whole_too : (HoldsFloats (target_pool y) (target_type y) → ⊥) → HoldsFloats (target_pool x) (target_type x) → ⊥
   whole_too whole floats = whole (subst (HoldsFloats (target_pool y)) same (subst (λ p. HoldsFloats p (target_type x)) place floats))
 
+  -- and values of one kind
   kind_too : (k : Kind) → OfKind y k → OfKind x k
   kind_too k of = subst (λ p. IsKind p k (target_type x).kind) (sym place) (subst (λ (f : FieldType). IsKind (target_pool y) k f.kind) (sym same) of)
 
@@ -69,10 +72,12 @@ module _ (pool : PoolType) (sound : IsSound pool) (a b : DynamicMessage) (twins 
     -- ---- the last part of a name
 
     module _ (o : OptionContent) (new : DynamicMessage) (path : List ℤ) (sets : SetsLast y o b new path) where
+      -- what takes a value has none
       set_already : holds_many x ≡ false → steps.is_set a x ≡ true → PutsSaid y sets.put.2 b new → ⊥
       set_already single set (inl (one, unset, puts)) = not_set single set unset
       set_already single set (inr (of_many, adds)) = true≢false (sym of_many ∙ sym many ∙ single)
 
+      -- what says a value to it does not say nothing
       not_said : (k : Kind) → OfKind x k → (e : OptionErrorKind) → RefusesValue k o e → ⊥
       not_said k of e refuses =
           let f : FieldType = target_type x in
@@ -90,6 +95,7 @@ module _ (pool : PoolType) (sound : IsSound pool) (a b : DynamicMessage) (twins 
     -- ---- a part before the last
 
     module _ (rest deep : DynamicMessage) (into : LeadsInto y b rest deep) where
+      -- what leads into a message does not lead nowhere
       leads_somewhere : (e : OptionErrorKind) → LeadsNowhere x a e → ⊥
       leads_somewhere (kinds.InvalidOptionType name) (inl of_many) = true≢false (sym of_many ∙ many ∙ into.one)
       leads_somewhere (kinds.InvalidOptionType name) (inr (inl no_kind)) = no_kind into.kind.0 (kind_too (values.Message into.kind.0) into.kind.1)
@@ -110,6 +116,7 @@ module _ (s t : NameScope) (alike : NameAlike s t) (pool : PoolType) (sound : Is
     same_pool : target_pool x ≡ target_pool y
     same_pool = named_pool s a.descriptor part x named ∙ pools pool a b twins ∙ sym (named_pool t b.descriptor part y also)
 
+  -- an option is not refused and set
   not_both : (o : OptionContent) (levels : ℕ) (parts : List NamePart) (a b new : DynamicMessage) (path : List ℤ) (e : OptionErrorKind) → AreTwins pool a b
       → Exclusive (suc (suc (above levels))) a → Exclusive (suc (suc (above levels))) b
       → RefusesParts s o levels parts a e → SetsParts t o levels parts b new path → ⊥
@@ -156,6 +163,7 @@ module _ (s t : NameScope) (alike : NameAlike s t) (pool : PoolType) (sound : Is
 
   -- ---- one option behind others
 
+  -- options of which the one at a place is refused are not all set
   pub not_set_at : (os : List UninterpretedOption) (place : ℕ) (a b new : DynamicMessage) (paths : List (List ℤ)) (e : OptionErrorKind) → AreTwins pool a b
       → Exclusive (suc (suc (above 100))) a → Exclusive (suc (suc (above 100))) b → RefusesAt s os a place e → SetsAll t os b new paths → ⊥
   not_set_at [] place a b new paths e twins one two refuses sets = cc refuses.3

@@ -107,6 +107,7 @@ pub record PutsEntry (pool : PoolType) (i : ℕ) (f : FieldType) (c : Content) (
   pub entry : entry_of (key_of pool (entry_part pool f 1)) (part_of pool (entry_part pool f 2)) c ≡ (key_single key, content_view value)
   pub put : new ≡ assign (field_at pool i) f.number (if_some (pairs_view (insert_entry ghosts.cmp before key value))) old
 
+-- what is seen behind is one
 pub one_map : (pool : PoolType) (i : ℕ) (f : FieldType) (c : Content) (old new other : Message) → PutsEntry pool i f c old new → PutsEntry pool i f c old other → new ≡ other
 one_map pool i f c old new other a b =
     let same : ◌≡◌ {A = Single × Content} (key_single a.key, content_view a.value) (key_single b.key, content_view b.value) = sym a.entry ∙ b.entry in
@@ -133,6 +134,7 @@ module _ (o : OptionContent) (levels : ℕ) (old new : DynamicMessage)
   kind : IsKind pool sets.put.0 f.kind
   kind = subst (λ p. IsKind p sets.put.0 f.kind) (pool_is d sound.apart t owns) sets.put.1
 
+  -- the message that an option says is the entry
   put_so : AddsValues t (v ∷ []) old new → PutsEntry pool d.index f (content_view v) (view old) (view new)
   put_so adds =
       let c = entry_kind pool sets.put.0 f.kind kind (entry_of_map pool f is_map) in

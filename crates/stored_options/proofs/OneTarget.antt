@@ -45,6 +45,7 @@ module _ (s t : NameScope) (alike : NameAlike s t) (d e : MessageDescriptor) (po
   abbrev IsOwn : ℕ → Text → ExtensionType → Type 0
   IsOwn i full x = (x.extendee ≡ i) × (x.field.full_name ≡ full)
 
+  -- what is found of the one is found of the other
   called_there : (name : Text) (o : Option ℕ) → IsFirst (IsCalled name) (type_at d.pool.now d.index).fields o → IsFirst (IsCalled name) (type_at e.pool.now e.index).fields o
   called_there name o h =
       subst (λ i. IsFirst (IsCalled name) (type_at e.pool.now i).fields o) index

@@ -52,6 +52,7 @@ module _ (pool : PoolType) (whole : IsPool pool) (sound : IsSound pool) (can : (
 
   -- ---- all files
 
+  -- of so many files each is settled
   file_settled : (first n k : ℕ) (es : List Edit) (f : FileDescriptorProto) → k < n → slice_get pool.records (first + k) ≡ Some f → SettlesFiles pool first n es
       → (own : List Edit) × SettlesFile pool (first + k) f own
   file_settled first zero k es f less found all = absurd (omega (arith, less))

@@ -111,6 +111,7 @@ module _ (scope : OptionScope) (s : NameScope) (sound : IsSound s.pool.now) (can
 no_such_type : (p : PoolType) (name : List ℕ) (d : MessageDescriptor) → FindsMessage p name None → FindsMessage p name (Some d) → ⊥
 no_such_type p name d none some = none d.index no_type some.0 (some.1.0 no_type)
 
+-- what is found in the one pool is found in the other
 found_there : (scope : OptionScope) (s t : NameScope) → s.pool.now ≡ t.pool.now → (found : Option MessageDescriptor) → FindsMessage s.pool.now (type_name scope) found → FindsMessage t.pool.now (type_name scope) found
 found_there scope s t one_pool found h = subst (λ p. FindsMessage p (type_name scope) found) one_pool h
 
@@ -210,6 +211,7 @@ module _ (scope : OptionScope) (s t : NameScope) (alike : NameAlike s t) (one_po
       refuses_written (kinds.UndecodableOptions (Some w)) (differs, shallow, why) back = unlike w differs why back
       refuses_written k why back = absurd why
 
+    -- by their type they are not refused and settled
     refuses_typed : (at : Option ℕ) (k : OptionErrorKind) → RefusesTyped scope s d o at k → (other : DynamicMessage) (ways : List (List ℤ)) → IsWhole scope t e o other ways → IsReadBack other → ⊥
     refuses_typed None k (inl why) other ways b back = refuses_stored b.0 b.2 scope refl k why
     refuses_typed None k (inr (whole, paths, a, why)) other ways b back = refuses_written whole other paths ways a b k why back
@@ -222,6 +224,7 @@ module _ (scope : OptionScope) (s t : NameScope) (alike : NameAlike s t) (one_po
   forbidden_none (Some place) (kinds.ForbiddenOption name) (first, (x, there, tells)) none = none place x first.0 (first.1.0 x)
   forbidden_none at k forbidden none = absurd forbidden
 
+  -- nor in any way
   pub not_settled : (at : Option ℕ) (k : OptionErrorKind) → RefusesOptions scope s o at k → (settled : OptionsContent) (paths : List (List ℤ)) → Settles scope t o settled paths → ⊥
   not_settled at k (inl forbidden) settled paths is = forbidden_none at k forbidden is.0
   not_settled at k (inr (finds, inl lacks)) settled paths is = no_such_type pool (type_name scope) is.1.0 (found_there scope s t one_pool None lacks.0) is.1.1.1

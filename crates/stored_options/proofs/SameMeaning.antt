@@ -21,6 +21,7 @@ module _ (known : Known) (sees : ℕ → Bool) (f : ResolveNameFilter) (n x : Li
   abbrev IsThere : Type 0
   IsThere = (n ≡ x) × IsWantedAs known sees f n d
 
+  -- the one that is known, seen and wanted
   there : (e : Definition) → known n ≡ Some e → is_seen sees e ≡ true → is_wanted f e.kind ≡ true → means n e ≡ means x d → IsThere
   there e at seen wanted is =
       let own : e ≡ d = cc is in
@@ -84,6 +85,7 @@ module _ (known : Known) (f : ResolveNameFilter) (sees see : ℕ → Bool) (to :
   abbrev Dotted : (ℕ → Bool) → Meaning → Type 0
   Dotted sees m = SaysDotted (λ p. is_holder (known (join p (first_part name)))) (λ p. standing sees f (known (join p name))) name s m
 
+  -- a name without a dot, one with a dot, and either
   undotted_same : (m : Meaning) → Undotted sees (means x d) → Undotted see m → IsNamed x m
   undotted_same (means y e) (p, in_p, is, here, less) (q, in_q, same, other, none) =
       by (cases_lt (length p) (length q)) (cases_lt (length q) (length p)) where

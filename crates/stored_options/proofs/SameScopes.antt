@@ -96,6 +96,7 @@ module _ (pool : PoolType) (whole : IsPool pool) (c : Entity) where
   abbrev known : Known
   known = known_of_files pool.records
 
+  -- an extension that is seen in the one is seen in the other
   wanted_too : (x y : NameScope) → IsScopeOf pool c x → IsScopeOf pool c y → WantedToo known filters.Extension (tells x.seen.now) (tells y.seen.now)
   wanted_too x y a b n d h =
       let k = extension_kind d.kind h.wanted in

@@ -56,6 +56,7 @@ record Gains (o : OptionContent) (pool : PoolType) (i : ℕ) (f : FieldType) (ol
   pub plain : holds_map pool f ≡ false → Gets (types_of pool (name_at pool i)) f.number field field.label value old new
   pub mapped : holds_map pool f ≡ true → PutsEntry pool i f value old new
 
+-- it is one message that comes of it
 one_gain : (o : OptionContent) (pool : PoolType) (i : ℕ) (f : FieldType) (old new other : Message) → Gains o pool i f old new → Gains o pool i f old other → new ≡ other
 one_gain o pool i f old new other a b = by (holds_map pool f) refl where
   fields : b.field ≡ a.field
@@ -74,6 +75,7 @@ one_gain o pool i f old new other a b = by (holds_map pool f) refl where
       (subst (λ c. Gets (types_of pool (name_at pool i)) f.number a.field a.field.label c old other) values
       (subst (λ (g : Field). Gets (types_of pool (name_at pool i)) f.number g g.label b.value old other) fields (b.plain is)))
 
+-- so does the last part of a name
 gained : (o : OptionContent) (levels : ℕ) (old new : DynamicMessage) → (sound : IsSound old.descriptor.pool.now) → Exclusive (suc (suc levels)) old → (t : Target) → OwnsTarget old.descriptor t → (path : List ℤ)
     → SetsLast t o old new path → Gains o old.descriptor.pool.now old.descriptor.index (target_type t) (view old) (view new)
 gained o levels old new sound shape t owns path sets =
@@ -109,6 +111,7 @@ twins_kept pool a b x y twins one two seen = record {
 message_index : (i j : ℕ) → types.message i ≡ types.message j → i ≡ j
 message_index i j e = cc e
 
+-- what is so of the one's pool is so of the other's
 module _ (pool : PoolType) (a b : DynamicMessage) (twins : AreTwins pool a b) where
   pub pools : a.descriptor.pool.now ≡ b.descriptor.pool.now
   pools = twins.first ∙ sym twins.second
@@ -138,6 +141,7 @@ module _ (pool : PoolType) (a b : DynamicMessage) (twins : AreTwins pool a b) wh
 
 module _ (s t : NameScope) (alike : NameAlike s t) (pool : PoolType) (sound : IsSound pool) where
   module _ (o : OptionContent) where
+    -- what is set along a name is seen alike
     pub parts_twice : (levels : ℕ) (parts : List NamePart) (a b x y : DynamicMessage) (path way : List ℤ) → AreTwins pool a b
         → Exclusive (suc (suc (above levels))) a → Exclusive (suc (suc (above levels))) b
         → SetsParts s o levels parts a x path → SetsParts t o levels parts b y way → view x ≡ view y

@@ -44,6 +44,7 @@ use Rattle.stored_options.proofs.Scoped.{truth_known}
 
 -- ---- one reading
 
+-- bytes spell one list of records
 one_rows : (bytes : List ℕ) (rs ts : List (ℕ × Payload)) → SpellsRecords 100 bytes (records_of rs) → SpellsRecords 100 bytes (records_of ts) → rs ≡ ts
 one_rows bytes rs ts h k = sym (listed_back rs) ∙ ap list_of (one_list 100 bytes (records_of rs) (records_of ts) h k) ∙ listed_back ts
 
@@ -57,6 +58,7 @@ read_view d sound bytes m type (rs, spelled, keeps, some, also, fields, (extensi
     ∙ sym (leaves_meaning pool sound.keys sound.defaults (types_of pool) (named pool sound.names) 100 d refl (content_of m) rs left)
 
 module _ (d e : MessageDescriptor) (pools : d.pool.now ≡ e.pool.now) (index : d.index ≡ e.index) (sound : IsSound d.pool.now) (bytes : List ℕ) where
+  -- messages that they spell by two descriptors of one type
   pub spelled_twice : (m n : DynamicMessage) → m.descriptor ≡ d → n.descriptor ≡ e → IsSpelled d bytes m → IsSpelled e bytes n → view m ≡ view n
   spelled_twice m n of also h k =
       let rows = one_rows bytes h.0 k.0 h.1 k.1 in
@@ -64,6 +66,7 @@ module _ (d e : MessageDescriptor) (pools : d.pool.now ≡ e.pool.now) (index : 
       ∙ (λ i. meaning 100 (types_of (pools i)) (name_at (pools i) (index i)) nothing (rows i))
       ∙ sym (read_view e (subst IsSound pools sound) bytes n also k)
 
+  -- what is told is true of the bytes, but for want of memory
   told_fault : (P : List ℕ → WireError → Type 0) (w : WireError) → w ≢ errors.Memory → TellsTrue P bytes w → P bytes w
   told_fault P errors.Memory other why = absurd (other refl)
   told_fault P w other why = why
@@ -88,6 +91,7 @@ single_truth w = refl
 
 module _ (d : MessageDescriptor) (sound : IsSound d.pool.now) (n : ℕ) (name : List ℕ) (g : FieldType)
     (is : numbered_field d.pool.now d.index n ≡ Some g) (truth_value : IsTruthValue name g) where
+  -- a value that is no message, no list and no map
   held_truth : (o : Option Value) → IsPlain o → truth_in o ≡ seen_truth (held_in d.pool.now g (option_map content_view o))
   held_truth None plain = refl
   held_truth (Some v) plain =

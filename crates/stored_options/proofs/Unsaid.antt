@@ -72,6 +72,7 @@ module _ (decoded : Name → Text → Option Message) (o : OptionContent) (pool 
       subst (λ x. Gives (schema_of pool decoded) (name_at pool d.index) x at.2) same (at.1, at.4, at.5) in
       none_given d (subst IsSound (sym is.0) sound) decoded z unfit at.2 (subst (λ p. Gives (schema_of p decoded) (name_at p d.index) z at.2) (sym is.0) given)
 
+  -- so it is of each refusal
   pub nothing_read : (k : Kind) (t : KindType) → IsKind pool k t → is_float t ≡ false → (e : OptionErrorKind) → RefusesValue k o e → Reads t → ⊥
   nothing_read k t is whole (refusals.InvalidOptionType name) refuses reads = unsuited k t is whole refuses reads
   nothing_read (values.Message d) t is whole (refusals.InvalidMessageOption name e) refuses reads = no_text d t is refuses.0 refuses.1 refuses.3.0 reads
