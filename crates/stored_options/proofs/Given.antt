@@ -1,5 +1,5 @@
 -- What the last part of a name puts into a message is what its field gets in the model.
-use Rattle.std.proofs.Common.{◌≡◌, ◌⊎◌, inl, inr, ℕ, ℤ, suc, ◌≤◌, Bool, true, false, cond, List, [], ◌∷◌, Option, refl, sym, ap, ◌∙◌, subst, arith}
+use Rattle.std.proofs.Common.{◌≡◌, inl, inr, ℕ, ℤ, suc, ◌≤◌, Bool, true, false, cond, List, [], ◌∷◌, Option, refl, sym, ap, ◌∙◌, subst, arith}
 use Rattle.descriptor_records.specs.Content.{OptionContent, name_view}
 use Rattle.descriptor_records.specs.declared.options.NamePart.{NamePart}
 use Rattle.message_view.specs.Sound.{IsSound}
