@@ -7,6 +7,7 @@ pub mod PresentMessages
 pub mod ReadUnset
 pub mod AddedBatches
 pub mod RefusedBatches
+pub mod RefusedOptions
 pub mod TextsAlike
 pub mod SameFiles
 pub mod PlainRecords

@@ -1,10 +1,11 @@
 -- Files that were added to schemas in batches, and why files are no batch behind a schema's.
-use Rattle.std.specs.Prelude.{◌⊎◌, List, map, Contains}
+use Rattle.std.specs.Prelude.{◌⊎◌, List, length, map, Contains}
 use Rattle.descriptor_records.specs.Content.{FileContent, file_view}
 use Rattle.descriptor_records.specs.declared.file.FileDescriptorProto.{FileDescriptorProto}
 use Rattle.reflect_build.specs.Refusals.{AreTooMany, IsOf, Linking, new_files}
+use Rattle.reflect_options.specs.Settling.{SettlesPool}
 use Rattle.reflect_tables.specs.Types.{PoolType}
-use Rattle.schema_core.specs.Refusals.{IsPool}
+use Rattle.schema_core.specs.Refusals.{FilesFit, IsPool}
 use Rattle.schema_core.specs.declared.schema.Schema.{Schema}
 use Rattle.schema_view.specs.Lawful.{IsLawful, Meanings, SameFiles, sources}
 use Rattle.schema_view.specs.Plain.{IsPlainFile}
@@ -38,3 +39,8 @@ AreUnlawful linked p fs = (w : Linking) × IsOf p w × ((meanings : Meanings)
 -- so it is, or they are too many
 abbrev pub AreNoBatch : (linked p : PoolType) → List FileDescriptorProto → Type 0
 AreNoBatch linked p fs = AreTooMany p fs ⊎ AreUnlawful linked p fs
+
+-- they fit together behind a pool, and the pool that they make there has no settled one
+abbrev pub FitUnsettled : PoolType → List FileDescriptorProto → Type 0
+FitUnsettled p files = (linked : PoolType) × FilesFit p files linked
+    × ((new : PoolType) → SettlesPool linked (length p.files) new → ⊥)

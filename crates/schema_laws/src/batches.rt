@@ -5,6 +5,7 @@ ghost use Rattle.std.specs.Prelude.{◌≡◌, ◌∷◌, ℕ, List, map};
 ghost use Rattle.descriptor_records.specs.Content.{FileContent, file_view};
 ghost use Rattle.descriptor_records.specs.declared.file.FileDescriptorProto.{FileDescriptorProto};
 ghost use Rattle.option_parts.specs.TypedOptions.{TypedFiles};
+ghost use Rattle.option_parts.specs.declared.option_error.OptionError.{OptionError};
 ghost use Rattle.reflect_build.specs.Refusals.{IsOf, Linking, new_files};
 ghost use Rattle.reflect_bytes.specs.Spelled.{SpellsSet};
 ghost use Rattle.reflect_passes.specs.declared.error.DescriptorError.{DescriptorError};
@@ -17,9 +18,9 @@ ghost use Rattle.schema_core.specs.Refusals.{AreFilesOf, BytesRefused, IsPool, S
 ghost use Rattle.schema_core.specs.Refusals.{SetRefused, SourcesLinked, SourcesRefused};
 ghost use Rattle.schema_core.specs.Refusals.{TextRefused};
 ghost use Rattle.schema_core.specs.declared.error.SchemaError.{SchemaError};
-ghost use Rattle.schema_core.specs.declared.error.SchemaError.TheVariants.{Link, Memory};
+ghost use Rattle.schema_core.specs.declared.error.SchemaError.TheVariants.{Link, Memory, Options};
 ghost use Rattle.schema_core.specs.declared.schema.Schema.{Schema};
-ghost use Rattle.schema_laws.specs.Batches.{AreNoBatch, HaveSameFiles};
+ghost use Rattle.schema_laws.specs.Batches.{AreNoBatch, FitUnsettled, HaveSameFiles};
 
 /// Sources that are added are one batch more, and the schema's pool still tells of its fields. What
 /// `IsPool` asks each pool has, as `pools_are_whole` says.
@@ -61,6 +62,23 @@ pub fn sets_that_do_not_link_are_no_batch()
         → SetRefused old.pool bytes (Link e)
         → (files typed : List FileDescriptorProto) × SpellsSet bytes files
         × TypedFiles files typed × AreNoBatch is.linked old.pool typed }
+{}
+
+/// Where sources are refused for their options, the files that they are fit together with the
+/// schema's, but the pool that they make has no settled one. So options that can be settled are.
+pub fn sources_with_refused_options_do_not_settle()
+    ensures { (old : Schema) (sources : List (List ℕ × List ℕ)) (e : OptionError)
+        → SourcesRefused old.pool sources (Options e)
+        → (files : List FileDescriptorProto) × AreFilesOf sources files
+        × FitUnsettled old.pool files }
+{}
+
+/// And so it is of descriptor sets.
+pub fn sets_with_refused_options_do_not_settle()
+    ensures { (old : Schema) (bytes : List ℕ) (e : OptionError)
+        → SetRefused old.pool bytes (Options e)
+        → (files : List FileDescriptorProto) × SpellsSet bytes files
+        × FitUnsettled old.pool files }
 {}
 
 /// Two schemas that the same files were added to, in whatever batches and order, have the same
