@@ -56,4 +56,5 @@ pub mod Pieces
 pub mod Stored
 pub mod Refusing
 pub mod PassedTexts
+pub mod Chains
 pub mod WrittenAlike

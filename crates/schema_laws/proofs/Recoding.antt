@@ -101,7 +101,8 @@ passed old new older bytes out b h short m means =
     bytes out m older (defaults new.0.pool new.0.sound) means
     (recodes old.0.pool old.0.sound old.1 bytes out b h) short
 
-through : (ss : List SchemaType) (bytes out : List ℕ) → AreBytes bytes → RecodedThrough ss bytes out
+-- what schemas recode, one after the other, as their types do
+pub through : (ss : List SchemaType) (bytes out : List ℕ) → AreBytes bytes → RecodedThrough ss bytes out
     → IsRecodedThrough (map type_of ss) bytes out × AreBytes out
 through [] bytes out b h = (h, subst AreBytes h b)
 through (s ∷ ss) bytes out b (next, h, c, short, more) =

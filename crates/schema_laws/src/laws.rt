@@ -115,6 +115,24 @@ pub fn older_schemas_change_no_printed_text()
         → (e : SchemaError) → BytesRefused new.0.pool new.1 out e → e ≡ Memory }
 {}
 
+/// What came through a chain of schemas whose types are older than the newest's, from bytes that the
+/// newest type accepts, the newest refuses for want of memory alone; and so does any that is older
+/// than it, and so might come next.
+pub fn chains_of_schemas_are_taken()
+    ensures newest { (new : SchemaType) (ss : List SchemaType)
+        → AreOlderThan (types_of new.0.pool) (without_dot new.1) (map type_of ss)
+        → IsKnown new.0.pool new.1 → (bytes out : List ℕ) → AreBytes bytes
+        → IsAccepted (types_of new.0.pool) (without_dot new.1) bytes → RecodedThrough ss bytes out
+        → (e : SchemaError) → BytesRefused new.0.pool new.1 out e → e ≡ Memory }
+    ensures next { (new old : SchemaType) (ss : List SchemaType)
+        → AreOlderThan (types_of new.0.pool) (without_dot new.1) (map type_of ss)
+        → IsOlder (types_of old.0.pool) (without_dot old.1)
+        (types_of new.0.pool) (without_dot new.1) → IsKnown old.0.pool old.1
+        → (bytes out : List ℕ) → AreBytes bytes
+        → IsAccepted (types_of new.0.pool) (without_dot new.1) bytes → RecodedThrough ss bytes out
+        → (e : SchemaError) → BytesRefused old.0.pool old.1 out e → e ≡ Memory }
+{}
+
 /// Behind any chain of schemas whose types are older than the newest's, the newest recodes to what
 /// it recodes the bytes themselves to.
 pub fn chains_of_schemas_have_one_normal_form()

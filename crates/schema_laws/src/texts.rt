@@ -21,7 +21,7 @@ ghost use Rattle.text_view.specs.Schemas.{schema_of};
 ghost use Rattle.text_view.specs.SourceNames.{HasSourceNames};
 ghost use Rattle.print_view.specs.Forms.{own_form};
 ghost use Rattle.schema_core.specs.Payloads.{Decoded, Encoded, Recoded};
-ghost use Rattle.schema_core.specs.Refusals.{IsNoText, TextRefused};
+ghost use Rattle.schema_core.specs.Refusals.{BytesRefused, IsNoText, TextRefused};
 ghost use Rattle.schema_core.specs.declared.error.SchemaError.{SchemaError};
 ghost use Rattle.schema_core.specs.declared.error.SchemaError.TheVariants.{Memory};
 ghost use Rattle.schema_core.specs.declared.schema.Schema.{Schema};
@@ -87,6 +87,12 @@ pub fn encoded_bytes_are_accepted()
         → Encoded s.pool name text out → length out < 2 ^ 64
         → (m : Message) × Gives (schema_of s.pool decoded) (without_dot name) text m
         × Mean (types_of s.pool) (without_dot name) out m }
+{}
+
+/// So what a schema encoded it refuses, as bytes of the same type, for want of memory alone.
+pub fn encoded_bytes_are_decoded()
+    ensures { (s : Schema) (name text out : List ℕ) → Encoded s.pool name text out
+        → length out < 2 ^ 64 → (e : SchemaError) → BytesRefused s.pool name out e → e ≡ Memory }
 {}
 
 /// Where names are spelled as in sources, what a schema prints of the bytes that it encoded a text
