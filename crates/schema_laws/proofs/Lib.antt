@@ -28,6 +28,7 @@ pub mod OneOrder
 pub mod OlderTypes
 pub mod OneFile
 pub mod SameRecords
+pub mod SameViews
 pub mod LaterTexts
 pub mod Again
 pub mod Batch

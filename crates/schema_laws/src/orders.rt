@@ -2,13 +2,14 @@
 //! function that does nothing. `IsMadeBy BatchLinked batches s` says that `Schema::new` made `s`,
 //! with sources that were added since, and that these files came, the last batch of them first;
 //! `AreNewFilesOf p sources batch`, that the sources are these files and others that `p` had.
-ghost use Rattle.std.specs.Prelude.{◌∷◌, ℕ, List, [], Contains, map};
+ghost use Rattle.std.specs.Prelude.{◌≡◌, ◌∷◌, ℕ, List, [], Contains, map};
 ghost use Rattle.descriptor_records.specs.Content.{FileContent, file_view};
 ghost use Rattle.option_parts.specs.OptionTypes.{ReadsOptions};
 ghost use Rattle.option_parts.specs.declared.option_scope.OptionScope.{OptionScope};
 ghost use Rattle.reflect_pool.specs.Linked.{empty_pool};
 ghost use Rattle.schema_view.specs.Lawful.{SameFiles, sources};
 ghost use Rattle.schema_view.specs.Plain.{IsPlainFile};
+ghost use Rattle.schema_view.specs.Views.{view_of};
 ghost use Rattle.schema_core.specs.Refusals.{IsPool, SourcesLinked, descriptor_name};
 ghost use Rattle.schema_core.specs.declared.schema.Schema.{Schema};
 ghost use Rattle.schema_laws.specs.Batches.{HaveSameFiles};
@@ -87,4 +88,13 @@ pub fn schemas_of_the_same_files_hold_the_same_options()
         → SameFiles (map unplaced (sources batches)) (map unplaced (sources others))
         → SameFiles (map unplaced (map file_view s.pool.records))
         (map unplaced (map file_view t.pool.records)) }
+{}
+
+/// So what the records of both say is one view: which files there are, and what they declare under
+/// which name and as which extension, with references as they were linked and settled options.
+pub fn schemas_of_the_same_files_have_one_view()
+    ensures { (batches others : List (List FileContent)) (s t : Schema)
+        → IsMadeBy BatchLinked batches s → IsMadeBy BatchLinked others t
+        → SameFiles (map unplaced (sources batches)) (map unplaced (sources others))
+        → view_of (map file_view s.pool.records) ≡ view_of (map file_view t.pool.records) }
 {}

@@ -62,7 +62,7 @@ found_by_name f = ap (λ b. when b f) (own_name (file_name f))
 pub outlines_unplaced : (fs : List FileContent) → outlines (map unplaced fs) ≡ outlines fs
 outlines_unplaced fs = map_same outline_of unplaced outline_of (λ f. refl) fs
 
-times_unplaced : (test : Body → Bool) (fs : List FileContent)
+pub times_unplaced : (test : Body → Bool) (fs : List FileContent)
     → times_by test (map unplaced fs) ≡ times_by test fs
 times_unplaced test fs =
     sum_map (λ (f : FileContent). sum_by (λ (d : Declaration). cond (test d.body) 1 0) (declarations f))
@@ -190,7 +190,7 @@ sources_unplaced (new ∷ earlier) =
 
 -- ---- views
 
-view_unplaced : (fs : List FileContent) → view_of (map unplaced fs) ≡ view_of fs
+pub view_unplaced : (fs : List FileContent) → view_of (map unplaced fs) ≡ view_of fs
 view_unplaced fs = λ i. record {
   files = λ n. first_same (file_at n) unplaced (file_at n) (λ f. refl) fs i;
   declared = λ n. first_same (declared_at n) unplaced (declared_at n) (λ f. refl) fs i;
