@@ -1,3 +1,4 @@
+pub mod Reads
 pub mod Refusals
 pub mod Statuses
 pub mod Texts

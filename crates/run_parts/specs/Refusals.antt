@@ -1,5 +1,5 @@
 -- Why bytes are no text.
-use Rattle.std.specs.Prelude.{◌≡◌, ℕ, List, string_bytes}
+use Rattle.std.specs.Prelude.{◌≡◌, ◌⊎◌, ℕ, List, [], ◌∷◌, string_bytes}
 use Rattle.std.specs.Str.{IsUtf8}
 use Rattle.run_parts.specs.declared.files.FileFault.{FileFault}
 use Rattle.run_parts.specs.declared.files.FileFault.TheVariants as files
@@ -10,3 +10,8 @@ RefusesText bytes name (files.NotUtf8 called) = (string_bytes called ≡ name)
     × (IsUtf8 bytes → ⊥)
 RefusesText bytes name (files.Read path) = ⊥
 RefusesText bytes name files.Memory = Unit {0}
+
+-- of names with their bytes: those of one are refused, and those before it are UTF-8
+abbrev pub RefusesOne : List (List ℕ × List ℕ) → FileFault → Type 0
+RefusesOne [] e = ⊥
+RefusesOne (s ∷ rest) e = RefusesText s.1 s.0 e ⊎ (IsUtf8 s.1 × RefusesOne rest e)

@@ -1,0 +1,10 @@
+use Rattle.std.proofs.Common.{rules}
+use Rattle.std.proofs.lemmas.Slice.Zip.{either_empty_from_Zip}
+use Rattle.run_parts.proofs.Texts.{paired_all}
+use Rattle.run_parts.proofs.files.sources.Goals as goal
+
+pub returns-clause-texts : goal.returns-clause-texts
+returns-clause-texts c =
+    let i = c.named.name-iterator in
+    let none = either_empty_from_Zip i c.next.new.self c.next.result c.in-None.is c.next.ensures.steps in
+    paired_all (λ n. n.now) (λ b. b.items) _ _ i.a.rest.now i.b.rest.now none c.named.invariant.texts
