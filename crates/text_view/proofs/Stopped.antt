@@ -1,10 +1,16 @@
--- Of each oneof of a message of which a text is refused one member at most still holds anything.
-use Rattle.std.proofs.Common.{◌≡◌, ◌⊎◌, inl, inr, ℕ, List, sym, subst}
+-- Of each oneof of a message of which a text is refused one member at most still holds anything; and but for want of memory
+-- the message holds what the fields before the fault give.
+use Rattle.std.proofs.Common.{◌≡◌, ◌≢◌, ◌⊎◌, ◌∙◌, inl, inr, ℕ, List, Option, Some, ap, sym, subst}
 use Rattle.protox_lex.specs.Class.{Text}
+use Rattle.protobuf_model.specs.Types.{Name}
+use Rattle.protobuf_model.specs.Values.{Message}
 use Rattle.text_lex.specs.Token.{Lexeme}
 use Rattle.text_error.specs.declared.error.ParseErrorKind.{ParseErrorKind}
-use Rattle.text_model.specs.Tree.{FieldName, plain, extension, expansion, Given}
-use Rattle.text_model.specs.Value.{written}
+use Rattle.text_error.specs.declared.error.ParseErrorKind.TheVariants as faults
+use Rattle.text_model.specs.Tree.{FieldName, Fields, plain, extension, expansion, Given}
+use Rattle.text_model.specs.Value.{value, written}
+use Rattle.text_syntax.specs.Beginning.{BeginWith}
+use Rattle.text_syntax.specs.Syntax.{at_end, message_at}
 use Rattle.reflect_tables.specs.Types.{KindType}
 use Rattle.reflect_tables.specs.Types as types
 use Rattle.reflect_any.specs.Any.{IsLone}
@@ -18,10 +24,12 @@ use Rattle.reflect_format.specs.Reads.{StaysUnless, Stops}
 use Rattle.reflect_format.specs.Steps.{LeavesNumber}
 use Rattle.reflect_format.specs.declared.target.Target.{Target}
 use Rattle.message_view.specs.Sound.{AreApart, IsSound}
+use Rattle.message_view.specs.Views.{view}
 use Rattle.text_view.specs.Holds.{HoldsKinds}
+use Rattle.text_view.specs.Schemas.{schema_of, shape_at}
 use Rattle.text_view.proofs.Bodies.{fills_type}
 use Rattle.text_view.proofs.Expanded.{IsWhole, bytes_whole, lone_owns, string_whole}
-use Rattle.text_view.proofs.Filling.{stays_so}
+use Rattle.text_view.proofs.Filling.{filled, stays_so}
 use Rattle.text_view.proofs.Owned.{OwnsTarget, named_target}
 use Rattle.text_view.proofs.Steady.{stays}
 
@@ -64,3 +72,19 @@ stopped_stays old new sound exclusive kinds ls kind (done, rest, reached, begins
     let its_apart = subst (λ (c : MessageDescriptor). AreApart c.pool.now) (sym (fills_type done old reached fills)) sound.apart in
     let before = (stays_so old reached sound exclusive kinds done fills).0 in
     either _ kind reached new (λ w. begun_stays w.0.name w.0.given reached new its_apart w.3 before) before refused.stays
+
+-- ---- and where memory was not wanted, it holds what the fields before the fault give
+
+unbegun : (P : Type 0) (kind : ParseErrorKind) (old new : DynamicMessage) → (kind ≢ faults.Memory) → StaysUnless P kind old new → new ≡ old
+unbegun P kind old new other (inl same) = same
+unbegun P kind old new other (inr w) = absurd (other w.0)
+
+pub fields_before : (decoded : Name → Text → Option Message) (old new : DynamicMessage) → IsSound old.descriptor.pool.now → IsExclusive old → HoldsKinds old
+    → (ls : List Lexeme) (kind : ParseErrorKind) → (kind ≢ faults.Memory) → Stops ls kind old new
+    → (done : Fields) × (rest : List Lexeme) × BeginWith at_end (message_at 100) ls done rest
+    × (value (schema_of old.descriptor.pool.now decoded) (shape_at old.descriptor.pool.now old.descriptor.index) done (view old) ≡ Some (view new)) × HoldsKinds new
+fields_before decoded old new sound exclusive holds ls kind other (done, rest, reached, begins, fills, refused) =
+    let same : new ≡ reached = unbegun _ kind reached new other refused.stays in
+    let given = filled decoded old reached sound exclusive holds done fills in
+    let kept = (stays_so old reached sound exclusive holds done fills).1 in
+    (done, rest, begins, given ∙ ap (λ m. Some (view m)) (sym same), subst HoldsKinds (sym same) kept)

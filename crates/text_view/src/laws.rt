@@ -1,6 +1,6 @@
 //! Laws of pools and messages in the words of the model of texts, each the contract of a function
 //! that does nothing.
-ghost use Rattle.std.specs.Prelude.{◌≡◌, ◌⊎◌, ◌↔◌, ◌<◌, ◌≤◌, ℕ, length, suc, Option, false, true, map, Bool, List, None, Some};
+ghost use Rattle.std.specs.Prelude.{◌≡◌, ◌≢◌, ◌⊎◌, ◌↔◌, ◌<◌, ◌≤◌, ℕ, length, suc, Option, false, true, map, Bool, List, None, Some};
 ghost use Rattle.std.specs.List.{AllByRecursion};
 ghost use Rattle.protox_lex.specs.Class.{Text};
 ghost use Rattle.reflect_pool.specs.declared.message.MessageDescriptor.{MessageDescriptor};
@@ -35,6 +35,7 @@ ghost use Rattle.message_view.specs.Sound.{HaveNames, AreApart, IsSound};
 ghost use Rattle.message_view.specs.Types.{field_at, kind_in, name_at, types_of};
 ghost use Rattle.message_view.specs.Views.{content_view, view};
 ghost use Rattle.text_error.specs.declared.error.ParseErrorKind.{ParseErrorKind};
+ghost use Rattle.text_error.specs.declared.error.ParseErrorKind.TheVariants as kinds;
 ghost use Rattle.text_lex.specs.Token.{Lexeme};
 ghost use Rattle.text_model.specs.Schemas.{shape_of, Schema};
 ghost use Rattle.text_model.specs.Texts.{Gives, IsText};
@@ -45,6 +46,8 @@ ghost use Rattle.text_view.specs.Holds.{HoldsKinds};
 ghost use Rattle.text_view.specs.Names.{names_of, number_in};
 ghost use Rattle.text_view.specs.Schemas.{is_any_at, schema_of, shape_at, type_called};
 ghost use Rattle.text_view.specs.Targets.{target_field};
+ghost use Rattle.text_syntax.specs.Beginning.{BeginWith};
+ghost use Rattle.text_syntax.specs.Syntax.{at_end, message_at};
 ghost use Rattle.text_view.specs.Values.{IsMessageOf, IsOne};
 
 /// The field that a text names is found by its name.
@@ -314,6 +317,19 @@ pub fn refused_messages_stay_exclusive()
     ensures { (old new : DynamicMessage) → IsSound old.descriptor.pool.now → IsExclusive old
         → HoldsKinds old → (ls : List Lexeme) (kind : ParseErrorKind) → Stops ls kind old new
         → IsExclusive new }
+{}
+
+/// But for want of memory, a message of which a text was refused is what the fields in front of the
+/// first fault make of it, and holds values of the kinds of its fields.
+pub fn refused_texts_leave_what_stands_before()
+    ensures { (decoded : Name → Text → Option Message) (old new : DynamicMessage)
+        → IsSound old.descriptor.pool.now → IsExclusive old → HoldsKinds old
+        → (ls : List Lexeme) (kind : ParseErrorKind) → (kind ≢ kinds.Memory)
+        → Stops ls kind old new
+        → (done : Fields) × (rest : List Lexeme) × BeginWith at_end (message_at 100) ls done rest
+        × (value (schema_of old.descriptor.pool.now decoded)
+        (shape_at old.descriptor.pool.now old.descriptor.index) done (view old)
+        ≡ Some (view new)) × HoldsKinds new }
 {}
 
 /// A message in shape that a text fills is in shape, of as many levels as braces are open in the
