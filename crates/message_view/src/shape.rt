@@ -3,7 +3,7 @@
 //!
 //! Those of calls are of any count of levels below, and of messages that are exclusive at each
 //! depth as of any others: that the message itself stays exclusive is said by the calls.
-ghost use Rattle.std.specs.Prelude.{◌≡◌, ◌<◌, ◌≤◌, ◌^◌, Bool, List, None, Some, length, suc, ℕ};
+ghost use Rattle.std.specs.Prelude.{◌≡◌, ◌↔◌, ◌<◌, ◌≤◌, ◌^◌, Bool, List, None, Some, length, suc, ℕ};
 ghost use Rattle.protobuf_model.specs.Bytes.{bytes_of};
 ghost use Rattle.protobuf_model.specs.Coded.{Mean, SuitsType};
 ghost use Rattle.reflect_decode.specs.Spelled.{IsSpelled, TellsWhy};
@@ -161,4 +161,17 @@ pub fn what_is_taken_out_leaves_the_shape()
     ensures { (exclusive : Bool) (levels : ℕ) (old new : DynamicMessage) → TakesOut old new
         → IsShaped (HasShape exclusive levels) old.descriptor (content_of old)
         → IsShaped (HasShape exclusive levels) new.descriptor (content_of new) }
+{}
+
+/// Messages of one type that suit it, of 100 levels at most, are written in the same bytes exactly
+/// where they hold the same, records without a field too, if these are no more than a length can
+/// say.
+pub fn messages_in_shape_have_the_same_bytes_where_they_hold_the_same()
+    ensures { (d : MessageDescriptor) → IsSound d.pool.now → (m n : DynamicMessage)
+        → m.descriptor ≡ d → n.descriptor ≡ d
+        → (levels depth : ℕ) → Shaped levels m → Shaped depth n
+        → SuitsType (types_of d.pool.now) (name_at d.pool.now d.index) (view m)
+        → SuitsType (types_of d.pool.now) (name_at d.pool.now d.index) (view n)
+        → length (message_bytes m) < 2 ^ 64 → length (message_bytes n) < 2 ^ 64
+        → (message_bytes m ≡ message_bytes n) ↔ (view m ≡ view n) }
 {}
