@@ -35,7 +35,7 @@ use Rattle.reflect_pool.specs.Linked.{empty_pool}
 use Rattle.schema_core.specs.declared.error.SchemaError.{SchemaError}
 use Rattle.schema_core.specs.declared.error.SchemaError.TheVariants.{Parse, Link, Options, Wire, Text, UnknownType, Memory, TooLong}
 use Rattle.schema_core.proofs.Apart.{NoLength, NoMemory, NoSourceMemory}
-use Rattle.schema_core.specs.Refusals.{of_source, of_linker, of_wire, of_options, DescriptorRefused, IsNoSet, FilesFit, FilesRefused, IsPool, sources_of, IsFileOf, AreFilesOf, SourcesLinked, SourcesRefused, SetRefused}
+use Rattle.schema_core.specs.Refusals.{of_source, of_linker, of_wire, of_options, DescriptorRefused, IsNoSet, FilesFit, FilesRefused, IsPool, sources_of, IsFileOf, AreFilesOf, AreSmall, SourcesLinked, SourcesRefused, SetRefused}
 
 -- a linker's refusal is one of files
 pub of_link : (p : PoolType) (files typed : List FileDescriptorProto) (d : DescriptorError) (e : SchemaError) → TypedFiles files typed → AreRefused p typed d → e ≡ of_linker d → FilesRefused p files e
@@ -69,29 +69,39 @@ view s = (s.0.now, s.1.now)
 pub lent : (lends : List (Bor (List ℕ) × Bor (List ℕ))) (i : ℕ) (d : Bor (List ℕ) × Bor (List ℕ)) → i < length lends → slice_get (sources_of lends) i ≡ Some (view (get_or lends i d))
 lent lends i d inside = slice_get-map view lends i ∙ ap (option_map view) (slice_get-get_or lends i d inside)
 
--- a source that is answered with a file, whose length a place can tell
-pub of_parse : (name z : List ℕ) (file : FileDescriptorProto) → (length z < 2 ^ 31 → IsAnswered name z (Ok file)) → (2 ^ 31 ≤ length z → ⊥) → IsAnswered name z (Ok file)
+-- a source is of no more bytes than a place can tell, and is answered with a file
+abbrev pub IsRead : List ℕ × List ℕ → FileDescriptorProto → Type 0
+IsRead s f = IsFileOf s f × (length s.1 < 2 ^ 31)
+
+-- and so is each of a batch, in order
+abbrev pub AreRead : List (List ℕ × List ℕ) → List FileDescriptorProto → Type 0
+AreRead sources files = AreFilesOf sources files × AreSmall sources
+
+-- a source for which there is a file is read, for of one that is too large there is none
+pub of_parse : (name z : List ℕ) (file : FileDescriptorProto) → (length z < 2 ^ 31 → IsAnswered name z (Ok file)) → (2 ^ 31 ≤ length z → ⊥) → IsRead (name, z) file
 of_parse name z file small large = by (cases_lt (length z) (2 ^ 31)) where
-  by : (length z < 2 ^ 31) ⊎ (2 ^ 31 ≤ length z) → IsAnswered name z (Ok file)
-  by (inl lt) = small lt
+  by : (length z < 2 ^ 31) ⊎ (2 ^ 31 ≤ length z) → IsRead (name, z) file
+  by (inl lt) = (small lt, lt)
   by (inr le) = absurd (large le)
 
-files_more : (sources : List (List ℕ × List ℕ)) (files : List FileDescriptorProto) (s : List ℕ × List ℕ) (f : FileDescriptorProto) → AreFilesOf sources files → IsFileOf s f → AreFilesOf (sources ++ s ∷ []) (files ++ f ∷ [])
-files_more [] [] s f h k = (k, tt)
-files_more [] (g ∷ files) s f h k = absurd h
-files_more (r ∷ sources) [] s f h k = absurd h
-files_more (r ∷ sources) (g ∷ files) s f h k = (h.0, files_more sources files s f h.1 k)
+files_more : (sources : List (List ℕ × List ℕ)) (files : List FileDescriptorProto) (s : List ℕ × List ℕ) (f : FileDescriptorProto) → AreRead sources files → IsRead s f → AreRead (sources ++ s ∷ []) (files ++ f ∷ [])
+files_more [] [] s f h k = ((k.0, tt), (k.1, tt))
+files_more [] (g ∷ files) s f h k = absurd h.0
+files_more (r ∷ sources) [] s f h k = absurd h.0
+files_more (r ∷ sources) (g ∷ files) s f h k =
+    let more = files_more sources files s f (h.0.1, h.1.1) k in
+    ((h.0.0, more.0), (h.1.0, more.1))
 
 -- one source more is read
-pub one_read : (lends : List (Bor (List ℕ) × Bor (List ℕ))) (i : ℕ) (d : Bor (List ℕ) × Bor (List ℕ)) (old new : List FileDescriptorProto) (file : FileDescriptorProto) → i < length lends → AreFilesOf (sources_of (take i lends)) old → IsFileOf (view (get_or lends i d)) file → new ≡ old ++ file ∷ []
-    → AreFilesOf (sources_of (take (i + 1) lends)) new
+pub one_read : (lends : List (Bor (List ℕ) × Bor (List ℕ))) (i : ℕ) (d : Bor (List ℕ) × Bor (List ℕ)) (old new : List FileDescriptorProto) (file : FileDescriptorProto) → i < length lends → AreRead (sources_of (take i lends)) old → IsRead (view (get_or lends i d)) file → new ≡ old ++ file ∷ []
+    → AreRead (sources_of (take (i + 1) lends)) new
 one_read lends i d old new file inside so_far here put =
     let read : sources_of (take (i + 1) lends) ≡ sources_of (take i lends) ++ view (get_or lends i d) ∷ [] = ap sources_of (take_more lends i d inside) ∙ map-append view (take i lends) (get_or lends i d ∷ []) in
-    subst (λ l. AreFilesOf l new) (sym read) (subst (AreFilesOf (sources_of (take i lends) ++ view (get_or lends i d) ∷ [])) (sym put) (files_more (sources_of (take i lends)) old (view (get_or lends i d)) file so_far here))
+    subst (λ l. AreRead l new) (sym read) (subst (AreRead (sources_of (take i lends) ++ view (get_or lends i d) ∷ [])) (sym put) (files_more (sources_of (take i lends)) old (view (get_or lends i d)) file so_far here))
 
 -- the files of all sources that are lent are those of the batch
-pub all_read : (lends : List (Bor (List ℕ) × Bor (List ℕ))) (i : ℕ) (files : List FileDescriptorProto) → length lends ≤ i → AreFilesOf (sources_of (take i lends)) files → AreFilesOf (sources_of lends) files
-all_read lends i files end read = subst (λ l. AreFilesOf (sources_of l) files) (take_all i lends end) read
+pub all_read : (lends : List (Bor (List ℕ) × Bor (List ℕ))) (i : ℕ) (files : List FileDescriptorProto) → length lends ≤ i → AreRead (sources_of (take i lends)) files → AreRead (sources_of lends) files
+all_read lends i files end read = subst (λ l. AreRead (sources_of l) files) (take_all i lends end) read
 
 -- what is told of a source that is too large, but for want of memory
 alone_told : (x : ParseError) → (x ≡ parsed.Memory → ⊥) → (x ≡ parsed.Memory) ⊎ (faults_of x ≡ FileTooLarge ∷ []) → faults_of x ≡ FileTooLarge ∷ []
@@ -124,9 +134,9 @@ refused_descriptor batch (Options e) refused = inl refused
 refused_descriptor batch e refused = refused
 
 -- a source that is added, and does not declare all that options are read by
-pub lacks_types : (batch : List (List ℕ × List ℕ)) (new : PoolType) (o : OptionError) (kind : OptionErrorKind) → o.kind ≡ kind → SourcesLinked empty_pool batch new → o.place ≡ None → TellsRequired new kind → DescriptorRefused batch (of_options o kind)
-lacks_types batch new o kinds.Memory is linked none told = tt
-lacks_types batch new o kind is linked none told = inr (new, linked, ap (option_map place_of) none, subst (TellsRequired new) (sym is) told)
+pub lacks_types : (batch : List (List ℕ × List ℕ)) (new : PoolType) (o : OptionError) (kind : OptionErrorKind) → o.kind ≡ kind → SourcesLinked empty_pool batch new → IsPool new → IsSound new → o.place ≡ None → TellsRequired new kind → DescriptorRefused batch (of_options o kind)
+lacks_types batch new o kinds.Memory is linked pool sound none told = tt
+lacks_types batch new o kind is linked pool sound none told = inr (new, linked, pool, sound, ap (option_map place_of) none, subst (TellsRequired new) (sym is) told)
 
 -- bytes that are read as no set spell none, and have the fault that is told
 no_set : (bytes : List ℕ) (e : WireError) → (e ≡ wire.Memory → ⊥) → Rejects IsSetBytes SetBytesFault bytes e → IsNoSet bytes e

@@ -1,6 +1,7 @@
 -- Which refusals the calls of a schema give.
 use Rattle.std.specs.Prelude.{◌≡◌, ◌≢◌, ◌⊎◌, ◌<◌, ◌≤◌, ◌^◌, ℕ, List, [], ◌∷◌, false, cond, None, Some, Ok, Err, map, length, take, slice_get, string_bytes, codes}
 use Rattle.std.specs.Borrow.{Bor}
+use Rattle.std.specs.List.{AllByRecursion}
 pub use Rattle.linked_view.specs.Pools.{IsPool}
 use Rattle.message_view.specs.Sound.{IsSound}
 use Rattle.protox_parse.specs.Answers.{IsAnswered}
@@ -152,6 +153,10 @@ AreFilesOf [] (f ∷ fs) = ⊥
 AreFilesOf (s ∷ ss) [] = ⊥
 AreFilesOf (s ∷ ss) (f ∷ fs) = IsFileOf s f × AreFilesOf ss fs
 
+-- each source is of fewer bytes than are too large
+abbrev pub AreSmall : List (List ℕ × List ℕ) → Type 0
+AreSmall sources = AllByRecursion (λ s. length s.1 < 2 ^ 31) sources
+
 -- sources are added as such files
 abbrev pub SourcesLinked : PoolType → List (List ℕ × List ℕ) → PoolType → Type 0
 SourcesLinked p sources new = (files : List FileDescriptorProto) × AreFilesOf sources files
@@ -177,11 +182,12 @@ SourcesRefused p sources Memory = Unit {0}
 SourcesRefused p sources _ = ⊥
 
 -- of the one source that is to declare the types of options: it is refused as sources are, or it
--- is added and not all of the types are there to read options by
+-- is added, into a pool whose types are sound, and not all of the types are there to read options
+-- by
 abbrev pub DescriptorRefused : List (List ℕ × List ℕ) → SchemaError → Type 0
 DescriptorRefused sources (Options e) = SourcesRefused empty_pool sources (Options e)
-    ⊎ ((new : PoolType) × SourcesLinked empty_pool sources new × (option_place e ≡ None)
-    × TellsRequired new e.kind)
+    ⊎ ((new : PoolType) × SourcesLinked empty_pool sources new × IsPool new × IsSound new
+    × (option_place e ≡ None) × TellsRequired new e.kind)
 DescriptorRefused sources e = SourcesRefused empty_pool sources e
 
 -- bytes are those of a descriptor set whose files are added

@@ -1,4 +1,4 @@
-ghost use Rattle.std.specs.Prelude.{◌≡◌, ◌∷◌, [], Some, OnOk, OnErr, IfOk, IfErr, string_bytes};
+ghost use Rattle.std.specs.Prelude.{◌≡◌, ◌<◌, ◌^◌, ◌∷◌, [], length, Some, OnOk, OnErr, IfOk, IfErr, string_bytes};
 ghost use Rattle.linked_view.specs.OneProof.{IsSound-prop};
 ghost use Rattle.message_view.specs.Sound.{IsSound};
 
@@ -43,7 +43,7 @@ impl Schema {
     ghost use Rattle.option_parts.specs.declared.option_scope.OptionScope.{OptionScope};
     ghost use Rattle.schema_core.specs.declared.error.SchemaError.TheVariants.{Memory};
     ghost use Rattle.schema_core.specs.Payloads.{IsReadOfType, Encoded, Decoded, Recoded};
-    ghost use Rattle.schema_core.specs.Refusals.{TypeRefused, BytesRefused, TextRefused, DescriptorRefused, FilesLinked, FilesRefused, SourcesLinked, SourcesRefused, SetLinked, SetRefused, descriptor_name, sources_of};
+    ghost use Rattle.schema_core.specs.Refusals.{TypeRefused, BytesRefused, TextRefused, DescriptorRefused, FilesLinked, FilesRefused, AreSmall, SourcesLinked, SourcesRefused, SetLinked, SetRefused, descriptor_name, sources_of};
 
     /// A schema without files. Takes no memory.
     pub fn bare(alloc: Global) -> Schema
@@ -64,11 +64,13 @@ impl Schema {
         ensures types { IfOk result (λ s. (scope : OptionScope) → ReadsOptions s.pool scope) }
         ensures linked { IfOk result (λ s. SourcesLinked empty_pool
             ((descriptor_name, descriptor_source.now) ∷ []) s.pool) }
+        ensures small { IfOk result (λ _. length descriptor_source.now < 2 ^ 31) }
         ensures err { IfErr result (DescriptorRefused
             ((descriptor_name, descriptor_source.now) ∷ [])) }
     {
         let mut schema = Schema::bare(alloc);
         schema.add_sources(&[(DESCRIPTOR_NAME, descriptor_source)])?;
+        pools_are_whole(&schema.pool);
         match require_option_types(alloc, &schema.pool)? {
             Some(kind) => Err(SchemaError::from(OptionError::new(kind, None))),
             None => Ok(schema),
@@ -104,6 +106,7 @@ impl Schema {
         ensures unchanged { OnErr result (self.new.pool ≡ self.old.pool) }
         ensures linked { OnOk result (SourcesLinked self.old.pool (sources_of sources.now)
             self.new.pool) }
+        ensures small { OnOk result (AreSmall (sources_of sources.now)) }
         ensures err { IfErr result (SourcesRefused self.old.pool (sources_of sources.now)) }
     {
         let mut files = Vec::new(self.alloc);

@@ -19,7 +19,10 @@ returns-in-Some-clause-err c =
     let linked = subst (λ p. SourcesLinked p batch new) c.bare-schema.ensures c.in_ok-add_sources.ensures.linked in
     let told = subst (λ fault. IfSome fault (TellsRequired new)) c.in-Some.is c.in_ok-kind.ensures.told in
     subst (DescriptorRefused batch) (sym c.from.ensures)
-    (lacks_types batch new c.new.result c.new.result.kind refl linked c.new.ensures.place (subst (TellsRequired new) (sym c.new.ensures.kind) told))
+    (lacks_types batch new c.new.result c.new.result.kind refl linked c.pools_are_whole.ensures c.add_sources.new.self.sound c.new.ensures.place (subst (TellsRequired new) (sym c.new.ensures.kind) told))
 
 pub returns-in-None-clause-linked : goal.returns-in-None-clause-linked
 returns-in-None-clause-linked c = subst (λ p. SourcesLinked p ((descriptor_name, c.args.descriptor_source.now) ∷ []) c.add_sources.new.self.pool) c.bare-schema.ensures c.in_ok-add_sources.ensures.linked
+
+pub returns-in-None-clause-small : goal.returns-in-None-clause-small
+returns-in-None-clause-small c = c.in_ok-add_sources.ensures.small.0
