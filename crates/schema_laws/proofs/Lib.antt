@@ -8,6 +8,7 @@ pub mod ReadUnset
 pub mod AddedBatches
 pub mod RefusedBatches
 pub mod RefusedOptions
+pub mod ReadSources
 pub mod TextsAlike
 pub mod SameFiles
 pub mod PlainRecords

@@ -4,6 +4,7 @@
 
 pub mod batches;
 pub mod detour;
+pub mod exact;
 pub mod growth;
 pub mod laws;
 pub mod names;
