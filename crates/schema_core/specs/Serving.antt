@@ -54,19 +54,24 @@ PayloadRefused p name is_hex input (fault.Schema e) = (bytes : List ℕ)
 PayloadRefused p name is_hex input fault.NotHex = (is_hex ≡ true) × IsNoHex input
 PayloadRefused p name is_hex input fault.NotUtf8 = ⊥
 PayloadRefused p name is_hex input fault.Read = Unit {0}
-PayloadRefused p name is_hex input fault.Write = Unit {0}
+PayloadRefused p name is_hex input fault.Write = ⊥
 PayloadRefused p name is_hex input fault.Memory = Unit {0}
 
--- how an input is refused
+-- how an input is refused; an output is called faulty only for an input that has an answer
 abbrev pub RefusesInput : Action → PoolType → List ℕ → Bool → List ℕ → Fault → Type 0
 RefusesInput Encode p name is_hex input (fault.Schema e) = (e ≢ Memory)
     × TextRefused p name input e
 RefusesInput Encode p name is_hex input fault.NotHex = ⊥
 RefusesInput Encode p name is_hex input fault.NotUtf8 = ¬ IsUtf8 input
 RefusesInput Encode p name is_hex input fault.Read = Unit {0}
-RefusesInput Encode p name is_hex input fault.Write = Unit {0}
+RefusesInput Encode p name is_hex input fault.Write =
+    (written : List ℕ) × Answers Encode p name is_hex input written
 RefusesInput Encode p name is_hex input fault.Memory = Unit {0}
+RefusesInput Decode p name is_hex input fault.Write =
+    (written : List ℕ) × Answers Decode p name is_hex input written
 RefusesInput Decode p name is_hex input f = PayloadRefused p name is_hex input f
+RefusesInput Recode p name is_hex input fault.Write =
+    (written : List ℕ) × Answers Recode p name is_hex input written
 RefusesInput Recode p name is_hex input f = PayloadRefused p name is_hex input f
 
 -- a refusal of the schema, as one of a payload
