@@ -267,5 +267,9 @@ file_view f = record {
   syntax_name = text_view f.syntax;
 }
 
+-- a file without what it tells of lines, columns and comments
+abbrev pub unlocated : FileContent → FileContent
+unlocated f = record f { source_code_info = None }
+
 abbrev pub set_view : FileDescriptorSet → List FileContent
 set_view s = map file_view s.file.items

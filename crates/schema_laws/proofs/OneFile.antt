@@ -6,7 +6,7 @@ use Rattle.std.proofs.lemmas.Option.{same_Some}
 use Rattle.std.proofs.lemmas.List.Elements.{recursion_from_All}
 use Rattle.std.specs.List.{AllByRecursion, AllZip}
 use Rattle.std.specs.Option.{option_map}
-use Rattle.descriptor_records.specs.Content.{FileContent, Text, file_view, options_view}
+use Rattle.descriptor_records.specs.Content.{FileContent, Text, file_view, options_view, unlocated}
 use Rattle.descriptor_records.specs.declared.file.FileDescriptorProto.{FileDescriptorProto}
 use Rattle.descriptor_records.specs.declared.options.Options.{Options}
 use Rattle.linked_view.proofs.Places.{get_less}
@@ -32,9 +32,9 @@ use Rattle.reflect_tables.specs.Views.{record_file}
 use Rattle.schema_view.specs.Lawful.{Builds, SameFiles, sources}
 use Rattle.schema_view.specs.Plain.{IsPlainFile as HasPlainName}
 use Rattle.schema_laws.specs.HeldOptions.{HasType}
-use Rattle.settled_records.specs.Alike.{AllSettleAlike, IsSameEntity, SettleAlike, unplaced}
+use Rattle.settled_records.specs.Alike.{AllSettleAlike, IsSameEntity, SettleAlike}
 use Rattle.settled_records.proofs.Pools.{settle_alike}
-use Rattle.settled_records.proofs.Unplaced.{settle_unplaced}
+use Rattle.settled_records.proofs.Unlocated.{settle_unlocated}
 use Rattle.settled_records.proofs.Walk.{same_entities}
 use Rattle.settled_records.proofs.Said.{no_dot}
 use Rattle.settled_records.proofs.AllOptions.{Said, file_keeps}
@@ -89,8 +89,8 @@ module _ (batches : List (List FileContent)) (x y : FileContent) (a : IsOfLast b
 
 -- ---- in both pools, where it may differ in lines, columns and comments
 module _ (batches others : List (List FileContent)) (after last : List FileContent) (plain : (f : FileContent) → Contains (sources batches) f → HasPlainName f)
-    (same : SameFiles (map unplaced (sources batches)) (map unplaced (sources others))) (built : Builds batches after) (also : Builds others last)
-    (x u y z : FileContent) (one : IsOneOf batches x y) (other : IsOneOf others u z) (like : unplaced x ≡ unplaced u) where
+    (same : SameFiles (map unlocated (sources batches)) (map unlocated (sources others))) (built : Builds batches after) (also : Builds others last)
+    (x u y z : FileContent) (one : IsOneOf batches x y) (other : IsOneOf others u z) (like : unlocated x ≡ unlocated u) where
   abbrev a : IsOfLast one.own x y
   a = one.last
 
@@ -106,12 +106,12 @@ module _ (batches others : List (List FileContent)) (after last : List FileConte
     built = subst (λ (bs : List (List FileContent)). Builds bs after) (sym one.behind) built;
     also = subst (λ (bs : List (List FileContent)). Builds bs last) (sym other.behind) also;
     plain = subst (λ (bs : List (List FileContent)). (f : FileContent) → Contains (sources bs) f → HasPlainName f) (sym one.behind) plain;
-    same = subst (λ (bs : List (List FileContent)). SameFiles (map unplaced (sources bs)) (map unplaced (sources (other.more ++ other.own)))) (sym one.behind)
-        (subst (λ (bs : List (List FileContent)). SameFiles (map unplaced (sources batches)) (map unplaced (sources bs))) (sym other.behind) same);
+    same = subst (λ (bs : List (List FileContent)). SameFiles (map unlocated (sources bs)) (map unlocated (sources (other.more ++ other.own)))) (sym one.behind)
+        (subst (λ (bs : List (List FileContent)). SameFiles (map unlocated (sources batches)) (map unlocated (sources bs))) (sym other.behind) same);
   }
 
-  content : unplaced (file_view a.stood.file) ≡ unplaced (file_view b.stood.file)
-  content = ap unplaced a.stood.content ∙ like ∙ sym (ap unplaced b.stood.content)
+  content : unlocated (file_view a.stood.file) ≡ unlocated (file_view b.stood.file)
+  content = ap unlocated a.stood.content ∙ like ∙ sym (ap unlocated b.stood.content)
 
   one_name : (header_told u).name ≡ (header_told x).name
   one_name = sym (ap (λ (c : FileContent). (header_told c).name) like)
@@ -146,12 +146,12 @@ module _ (batches others : List (List FileContent)) (after last : List FileConte
       entities_settle (file_entities a.index a.stood.file) (file_entities b.index b.stood.file) (same_entities a.index b.index a.stood.file b.stood.file content)
       (own_entities a.index a.stood.file a.stood.given) (own_entities b.index b.stood.file b.stood.given)
 
-  pub one_but_for_places : unplaced y ≡ unplaced z
+  pub one_but_for_places : unlocated y ≡ unlocated z
   one_but_for_places =
-      let r : option_map unplaced (slice_get (map file_view a.new.records) a.index) ≡ option_map unplaced (slice_get (map file_view b.new.records) b.index) =
-      settle_unplaced a.pool b.pool a.new b.new a.first b.first a.index b.index a.stood.file b.stood.file a.settles b.settles
+      let r : option_map unlocated (slice_get (map file_view a.new.records) a.index) ≡ option_map unlocated (slice_get (map file_view b.new.records) b.index) =
+      settle_unlocated a.pool b.pool a.new b.new a.first b.first a.index b.index a.stood.file b.stood.file a.settles b.settles
       a.far (near one.own x y a) b.far (near other.own u z b) a.stood.there b.stood.there content all_settle in
-      same_Some (unplaced y) (unplaced z) (sym (ap (option_map unplaced) a.comes) ∙ r ∙ ap (option_map unplaced) b.comes)
+      same_Some (unlocated y) (unlocated z) (sym (ap (option_map unlocated) a.comes) ∙ r ∙ ap (option_map unlocated) b.comes)
 
   pub one_content : x ≡ u → y ≡ z
   one_content is =

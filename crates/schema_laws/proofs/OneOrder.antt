@@ -1,7 +1,7 @@
 -- What the laws of order ask is so of schemas that the same files of sources made, and that sources of the same tokens did.
 use Rattle.std.proofs.Common.{◌≡◌, ◌∙◌, List, Ok, map, ap, sym, subst}
 use Rattle.std.specs.List.{Contains}
-use Rattle.descriptor_records.specs.Content.{FileContent, file_view}
+use Rattle.descriptor_records.specs.Content.{FileContent, file_view, unlocated}
 use Rattle.option_parts.specs.TypedOptions.{typed_file}
 use Rattle.protox_parse.specs.Answers.{IsAnswered}
 use Rattle.schema_view.specs.Lawful.{SameFiles, sources}
@@ -10,7 +10,6 @@ use Rattle.schema_view.proofs.Lists.{contains_map, contains_map_cases}
 use Rattle.schema_core.specs.Refusals.{SourcesLinked}
 use Rattle.schema_core.specs.declared.schema.Schema.{Schema}
 use Rattle.source_grammar.proofs.Answered.{same_record}
-use Rattle.settled_records.specs.Alike.{unplaced}
 use Rattle.source_laws.proofs.Sources.{source_undotted}
 use Rattle.schema_laws.specs.Batches.{HaveSameFiles}
 use Rattle.schema_laws.specs.Histories.{BatchLinked, IsMadeBy, Sources}
@@ -20,7 +19,7 @@ use Rattle.schema_laws.proofs.PlainNames.{file_stays, undotted}
 use Rattle.schema_laws.proofs.StayingSources.{ComeOf, came_of, come_in}
 
 pub same_made : (batches others : List (List FileContent)) (s t : Schema) → IsMadeBy BatchLinked batches s → IsMadeBy BatchLinked others t
-    → SameFiles (map unplaced (sources batches)) (map unplaced (sources others)) → HaveSameFiles batches others s t
+    → SameFiles (map unlocated (sources batches)) (map unlocated (sources others)) → HaveSameFiles batches others s t
 same_made batches others s t made also same =
     let a = came_about batches s made in
     let b = came_about others t also in
@@ -34,22 +33,22 @@ plain_come batches fs come c i =
     subst IsPlainFile (sym s.2.is) (file_stays (file_view s.2.file) (source_undotted s.0.0 s.0.1 s.2.file s.2.answered))
 
 one_way : (batches others : List Sources) (xs ys : List FileContent) → ComeOf batches xs → ComeOf others ys → HaveTheirLike batches others
-    → (f : FileContent) → Contains (map unplaced xs) f → Contains (map unplaced ys) f
+    → (f : FileContent) → Contains (map unlocated xs) f → Contains (map unlocated ys) f
 one_way batches others xs ys come also like f i =
-    let c = contains_map_cases unplaced xs f i in
+    let c = contains_map_cases unlocated xs f i in
     let s = come.from c.0 c.1 in
     let t = like s.0 s.1 in
     let d = also.to t.0 t.1 in
     let answered : IsAnswered s.0.0 t.0.1 (Ok d.2.file) = subst (λ name. IsAnswered name t.0.1 (Ok d.2.file)) (sym t.2) d.2.answered in
-    let records : unplaced (file_view s.2.file) ≡ unplaced (file_view d.2.file) = same_record s.0.0 s.0.1 t.0.1 s.2.file d.2.file t.3 s.2.answered answered in
-    let is : unplaced d.0 ≡ f = ap unplaced d.2.is ∙ ap typed_file (sym records) ∙ ap unplaced (sym s.2.is) ∙ c.2 in
-    subst (Contains (map unplaced ys)) is (contains_map unplaced ys d.0 d.1)
+    let records : unlocated (file_view s.2.file) ≡ unlocated (file_view d.2.file) = same_record s.0.0 s.0.1 t.0.1 s.2.file d.2.file t.3 s.2.answered answered in
+    let is : unlocated d.0 ≡ f = ap unlocated d.2.is ∙ ap typed_file (sym records) ∙ ap unlocated (sym s.2.is) ∙ c.2 in
+    subst (Contains (map unlocated ys)) is (contains_map unlocated ys d.0 d.1)
 
-same_files : (batches others : List Sources) (xs ys : List FileContent) → ComeOf batches xs → ComeOf others ys → AreSameSources batches others → SameFiles (map unplaced xs) (map unplaced ys)
+same_files : (batches others : List Sources) (xs ys : List FileContent) → ComeOf batches xs → ComeOf others ys → AreSameSources batches others → SameFiles (map unlocated xs) (map unlocated ys)
 same_files batches others xs ys come also same f = (one_way batches others xs ys come also same.0 f, one_way others batches ys xs also come same.1 f)
 
 pub same_in_histories : (batches others : List (List FileContent)) (s t : Schema) (made : IsMadeBy BatchLinked batches s) (also : IsMadeBy BatchLinked others t)
-    → AreSameSources (given_in batches s made) (given_in others t also) → SameFiles (map unplaced (sources batches)) (map unplaced (sources others))
+    → AreSameSources (given_in batches s made) (given_in others t also) → SameFiles (map unlocated (sources batches)) (map unlocated (sources others))
 same_in_histories batches others s t made also =
     same_files (given_in batches s made) (given_in others t also) (sources batches) (sources others) (come_in batches s made) (come_in others t also)
 

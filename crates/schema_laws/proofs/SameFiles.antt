@@ -11,7 +11,7 @@ use Rattle.texts_view.proofs.Settled.{settled_names}
 use Rattle.types_view.proofs.Settled.{settled_types}
 use Rattle.schema_core.specs.declared.schema.Schema.{Schema}
 use Rattle.schema_laws.proofs.TextsAlike.{no_message}
-use Rattle.stored_options.proofs.Unplaced.{one_view}
+use Rattle.stored_options.proofs.Unlocated.{one_view}
 use Rattle.schema_laws.specs.Batches.{HaveSameFiles}
 
 module _ (batches others : List (List FileContent)) (s t : Schema) (are : HaveSameFiles batches others s t) where

@@ -1,6 +1,6 @@
 -- Files that were added to schemas in batches, and why files are no batch behind a schema's.
 use Rattle.std.specs.Prelude.{◌⊎◌, List, length, map, Contains}
-use Rattle.descriptor_records.specs.Content.{FileContent, file_view}
+use Rattle.descriptor_records.specs.Content.{FileContent, file_view, unlocated}
 use Rattle.descriptor_records.specs.declared.file.FileDescriptorProto.{FileDescriptorProto}
 use Rattle.reflect_build.specs.Refusals.{AreTooMany, IsOf, Linking, new_files}
 use Rattle.reflect_options.specs.Settling.{SettlesPool}
@@ -9,7 +9,6 @@ use Rattle.schema_core.specs.Refusals.{FilesFit, IsPool}
 use Rattle.schema_core.specs.declared.schema.Schema.{Schema}
 use Rattle.schema_view.specs.Lawful.{IsLawful, Meanings, SameFiles, sources}
 use Rattle.schema_view.specs.Plain.{IsPlainFile}
-use Rattle.settled_records.specs.Alike.{unplaced}
 use Rattle.types_view.specs.Typed.{IsTyped}
 use Rattle.schema_laws.specs.Histories.{Addition, AdditionLinked}
 
@@ -24,7 +23,7 @@ pub record Grows (old new : Schema) : Type 0 where
 -- and in those; their names have no dots, as sources give them
 pub record HaveSameFiles (batches others : List (List FileContent)) (s t : Schema) : Type 0 where
   pub plain : (f : FileContent) → Contains (sources batches) f → IsPlainFile f
-  pub same : SameFiles (map unplaced (sources batches)) (map unplaced (sources others))
+  pub same : SameFiles (map unlocated (sources batches)) (map unlocated (sources others))
   pub first : IsTyped batches s.pool
   pub second : IsTyped others t.pool
   pub pool : IsPool s.pool

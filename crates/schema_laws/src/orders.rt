@@ -3,7 +3,7 @@
 //! with sources that were added since, and that these files came, the last batch of them first;
 //! `AreNewFilesOf p sources batch`, that the sources are these files and others that `p` had.
 ghost use Rattle.std.specs.Prelude.{◌≡◌, ◌∷◌, ℕ, List, [], Contains, map};
-ghost use Rattle.descriptor_records.specs.Content.{FileContent, file_view};
+ghost use Rattle.descriptor_records.specs.Content.{FileContent, file_view, unlocated};
 ghost use Rattle.option_parts.specs.OptionTypes.{ReadsOptions};
 ghost use Rattle.option_parts.specs.declared.option_scope.OptionScope.{OptionScope};
 ghost use Rattle.reflect_pool.specs.Linked.{empty_pool};
@@ -15,7 +15,6 @@ ghost use Rattle.schema_core.specs.declared.schema.Schema.{Schema};
 ghost use Rattle.schema_laws.specs.Batches.{HaveSameFiles};
 ghost use Rattle.schema_laws.specs.Histories.{AreNewFilesOf, BatchLinked, IsMadeBy, Sources};
 ghost use Rattle.schema_laws.specs.SameSources.{AreSameSources, given_in};
-ghost use Rattle.settled_records.specs.Alike.{unplaced};
 
 /// A schema that `Schema::new` made has a history: the file of its source.
 pub fn new_schemas_have_a_history()
@@ -49,7 +48,7 @@ pub fn files_of_sources_have_plain_names()
 pub fn histories_of_the_same_files_have_one_order()
     ensures { (batches others : List (List FileContent)) (s t : Schema)
         → IsMadeBy BatchLinked batches s → IsMadeBy BatchLinked others t
-        → SameFiles (map unplaced (sources batches)) (map unplaced (sources others))
+        → SameFiles (map unlocated (sources batches)) (map unlocated (sources others))
         → HaveSameFiles batches others s t }
 {}
 
@@ -69,7 +68,7 @@ pub fn histories_of_the_same_sources_are_of_the_same_files()
     ensures { (batches others : List (List FileContent)) (s t : Schema)
         (made : IsMadeBy BatchLinked batches s) (also : IsMadeBy BatchLinked others t)
         → AreSameSources (given_in batches s made) (given_in others t also)
-        → SameFiles (map unplaced (sources batches)) (map unplaced (sources others)) }
+        → SameFiles (map unlocated (sources batches)) (map unlocated (sources others)) }
 {}
 
 /// And both hold the same records: the same options, and locations.
@@ -85,9 +84,9 @@ pub fn schemas_of_the_same_files_hold_the_same_records()
 pub fn schemas_of_the_same_files_hold_the_same_options()
     ensures { (batches others : List (List FileContent)) (s t : Schema)
         → IsMadeBy BatchLinked batches s → IsMadeBy BatchLinked others t
-        → SameFiles (map unplaced (sources batches)) (map unplaced (sources others))
-        → SameFiles (map unplaced (map file_view s.pool.records))
-        (map unplaced (map file_view t.pool.records)) }
+        → SameFiles (map unlocated (sources batches)) (map unlocated (sources others))
+        → SameFiles (map unlocated (map file_view s.pool.records))
+        (map unlocated (map file_view t.pool.records)) }
 {}
 
 /// So what the records of both say is one view: which files there are, and what they declare under
@@ -95,6 +94,6 @@ pub fn schemas_of_the_same_files_hold_the_same_options()
 pub fn schemas_of_the_same_files_have_one_view()
     ensures { (batches others : List (List FileContent)) (s t : Schema)
         → IsMadeBy BatchLinked batches s → IsMadeBy BatchLinked others t
-        → SameFiles (map unplaced (sources batches)) (map unplaced (sources others))
+        → SameFiles (map unlocated (sources batches)) (map unlocated (sources others))
         → view_of (map file_view s.pool.records) ≡ view_of (map file_view t.pool.records) }
 {}

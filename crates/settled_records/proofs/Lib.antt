@@ -25,7 +25,7 @@ pub mod Changes
 pub mod Moved
 pub mod Placed
 pub mod Pools
-pub mod Unplaced
+pub mod Unlocated
 pub mod Typed
 pub mod Linked
 pub mod Accepted

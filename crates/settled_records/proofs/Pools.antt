@@ -6,7 +6,7 @@ use Rattle.std.proofs.lemmas.List.Sums.{fold-append}
 use Rattle.std.proofs.lemmas.Option.{same_Some, slice_get-map}
 use Rattle.std.specs.List.{AllZip}
 use Rattle.std.specs.Option.{option_map}
-use Rattle.descriptor_records.specs.Content.{FileContent, OptionsContent, file_view, options_view}
+use Rattle.descriptor_records.specs.Content.{FileContent, OptionsContent, file_view, options_view, unlocated}
 use Rattle.descriptor_records.specs.declared.file.FileDescriptorProto.{FileDescriptorProto}
 use Rattle.descriptor_records.specs.declared.options.Options.{Options}
 use Rattle.option_parts.specs.Moves.{EditsLocations}
@@ -21,7 +21,7 @@ use Rattle.settled_records.proofs.Changes.{Change, change_of, changed, edits_els
 use Rattle.settled_records.proofs.Moved.{locations_alike, same_locations}
 use Rattle.settled_records.proofs.Placed.{all_elsewhere, file_edits, files_elsewhere}
 use Rattle.settled_records.proofs.Walk.{same_entities}
-use Rattle.settled_records.specs.Alike.{AllSettleAlike, IsSameEntity, SettleAlike, unplaced}
+use Rattle.settled_records.specs.Alike.{AllSettleAlike, IsSameEntity, SettleAlike}
 
 -- what settles an entity of a pool by its options
 abbrev By : PoolType → Entity → List Edit → List Move → Option Options → Type 0
@@ -72,7 +72,7 @@ module _ (p q : PoolType) where
   file_alike : (i j : ℕ) (f g : FileDescriptorProto) (es ds : List Edit) → file_view f ≡ file_view g → AllSettleAlike p q i j f g → SettlesFile p i f es → SettlesFile q j g ds
       → map change_of es ≡ map change_of ds
   file_alike i j f g es ds same agree (options, moved, ms, settles, locates, is) (others, went, ns, settled, located, are) =
-      let first : Same options others ms ns = entities_alike (file_entities i f) (file_entities j g) options others ms ns (same_entities i j f g (ap unplaced same)) agree settles settled in
+      let first : Same options others ms ns = entities_alike (file_entities i f) (file_entities j g) options others ms ns (same_entities i j f g (ap unlocated same)) agree settles settled in
       let behind : map change_of moved ≡ map change_of went = locations_alike (target_in ns) i j 0 (locations f) (locations g) moved went (same_locations f g same)
       (subst (λ ts. EditsLocations (target_in ts) i 0 (locations f) moved) first.1 locates) located in
       ap (map change_of) is ∙ map-append change_of options moved ∙ (λ i. first.0 i ++ behind i) ∙ sym (map-append change_of others went) ∙ sym (ap (map change_of) are)

@@ -4,7 +4,7 @@ use Rattle.std.proofs.lemmas.List.{map-append}
 use Rattle.std.specs.List.{AllZip, flat_map}
 use Rattle.std.specs.Option.{option_map}
 use Rattle.protobuf_model.proofs.Pieces.{flat_map-append}
-use Rattle.descriptor_records.specs.Content.{enum_value_view, enum_view, extension_range_view, field_view, file_view, message_view, method_view, oneof_view, options_view, service_view, text_view}
+use Rattle.descriptor_records.specs.Content.{enum_value_view, enum_view, extension_range_view, field_view, file_view, message_view, method_view, oneof_view, options_view, service_view, text_view, unlocated}
 use Rattle.descriptor_records.specs.Content as content
 use Rattle.descriptor_records.specs.declared.enums.EnumDescriptorProto.{EnumDescriptorProto}
 use Rattle.descriptor_records.specs.declared.enums.EnumValueDescriptorProto.{EnumValueDescriptorProto}
@@ -23,7 +23,7 @@ use Rattle.reflect_scope.specs.Means.{join}
 use Rattle.linked_view.proofs.Walked.{tree_content, trees_content}
 use Rattle.settled_records.proofs.Entities.{types_are}
 use Rattle.settled_records.proofs.Told.{Told, all_told_same, enum_tells, extension_tells, field_tells, file_tells, message_tells, messages_tell, method_tells, named_service_tells, oneof_tells, package_tells, parts_tell, range_tells, service_tells, tells, text_in, told, value_tells}
-use Rattle.settled_records.specs.Alike.{IsSameEntity, unplaced}
+use Rattle.settled_records.specs.Alike.{IsSameEntity}
 
 -- what is told of the entities of declarations
 abbrev tell : List Declaration → List Told
@@ -125,5 +125,5 @@ file_told i f =
     ∙ ap (λ s. package_tells s (file_view f)) (text_told f.package)
 
 -- records of one content, but for lines, columns and comments, have the same
-pub same_entities : (i j : ℕ) (f g : FileDescriptorProto) → unplaced (file_view f) ≡ unplaced (file_view g) → AllZip IsSameEntity (file_entities i f) (file_entities j g)
+pub same_entities : (i j : ℕ) (f g : FileDescriptorProto) → unlocated (file_view f) ≡ unlocated (file_view g) → AllZip IsSameEntity (file_entities i f) (file_entities j g)
 same_entities i j f g same = all_told_same (file_entities i f) (file_entities j g) (file_told i f ∙ ap file_tells same ∙ sym (file_told j g))

@@ -10,10 +10,6 @@ use Rattle.reflect_options.specs.Settled.{Settles, StayAsTheyAre}
 use Rattle.reflect_options.specs.Settling.{IsScopeOf}
 use Rattle.reflect_tables.specs.Types.{PoolType}
 
--- a file without what it tells of lines, columns and comments
-abbrev pub unplaced : FileContent → FileContent
-unplaced f = record f { source_code_info = None }
-
 -- the same in its file: what it is, where it stands, from where names are looked up, and its
 -- options
 pub record IsSameEntity (c d : Entity) : Type 0 where

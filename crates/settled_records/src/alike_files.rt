@@ -1,18 +1,18 @@
 //! Laws of one file in two pools, each the contract of a function that does nothing.
 ghost use Rattle.std.specs.Prelude.{◌≡◌, ◌≤◌, ◌<◌, ℕ, Some, length, map, option_map, slice_get};
 ghost use Rattle.std.specs.List.{AllZip};
-ghost use Rattle.descriptor_records.specs.Content.{file_view};
+ghost use Rattle.descriptor_records.specs.Content.{file_view, unlocated};
 ghost use Rattle.descriptor_records.specs.declared.file.FileDescriptorProto.{FileDescriptorProto};
 ghost use Rattle.reflect_options.specs.Entities.{file_entities};
 ghost use Rattle.reflect_options.specs.Settling.{SettlesPool};
 ghost use Rattle.reflect_tables.specs.Types.{PoolType};
-ghost use Rattle.settled_records.specs.Alike.{AllSettleAlike, IsSameEntity, unplaced};
+ghost use Rattle.settled_records.specs.Alike.{AllSettleAlike, IsSameEntity};
 
 /// Records of one content, but for lines, columns and comments, have the same entities, one after
 /// another, whatever their files' indexes.
 pub fn records_of_one_content_have_the_same_entities()
     ensures { (i j : ℕ) (f g : FileDescriptorProto)
-        → unplaced (file_view f) ≡ unplaced (file_view g)
+        → unlocated (file_view f) ≡ unlocated (file_view g)
         → AllZip IsSameEntity (file_entities i f) (file_entities j g) }
 {}
 
@@ -33,7 +33,7 @@ pub fn files_whose_options_settle_alike_stay_the_same_but_for_places()
         → SettlesPool p first new → SettlesPool q second other
         → first ≤ i → i < length p.files → second ≤ j → j < length q.files
         → slice_get p.records i ≡ Some f → slice_get q.records j ≡ Some g
-        → unplaced (file_view f) ≡ unplaced (file_view g) → AllSettleAlike p q i j f g
-        → option_map unplaced (slice_get (map file_view new.records) i)
-        ≡ option_map unplaced (slice_get (map file_view other.records) j) }
+        → unlocated (file_view f) ≡ unlocated (file_view g) → AllSettleAlike p q i j f g
+        → option_map unlocated (slice_get (map file_view new.records) i)
+        ≡ option_map unlocated (slice_get (map file_view other.records) j) }
 {}

@@ -1,5 +1,5 @@
 -- What a source is answered with, in the words of the grammar.
-use Rattle.std.proofs.Common.{◌≡◌, List, None, Ok, ap, sym, ◌∙◌, inl, inr}
+use Rattle.std.proofs.Common.{◌≡◌, List, Ok, ap, sym, ◌∙◌, inl, inr}
 use Rattle.std.specs.Prelude.{◌↔◌}
 use Rattle.descriptor_records.specs.Content as records
 use Rattle.descriptor_records.specs.declared.file.FileDescriptorProto.{FileDescriptorProto}
@@ -28,11 +28,7 @@ refused z faults = (to, from) where
   from (inl h) = inl (h.1, h.2, h.3)
   from (inr h) = inr (h.0, (spelled z h.0).1 h.1, h.2)
 
--- a record without its locations
-abbrev unlocated : records.FileContent → records.FileContent
-unlocated c = record c { source_code_info = None }
-
-pub same_record : (name z w : Text) (a b : FileDescriptorProto) → HaveSameTokens z w → IsAnswered name z (Ok a) → IsAnswered name w (Ok b) → unlocated (records.file_view a) ≡ unlocated (records.file_view b)
+pub same_record : (name z w : Text) (a b : FileDescriptorProto) → HaveSameTokens z w → IsAnswered name z (Ok a) → IsAnswered name w (Ok b) → records.unlocated (records.file_view a) ≡ records.unlocated (records.file_view b)
 same_record name z w a b same h k =
     let trees : unplaced (file_view h.0) ≡ unplaced (file_view k.0) = same_trees z w (file_view h.0) (file_view k.0) same ((spelled z (file_view h.0)).0 h.1) ((spelled w (file_view k.0)).0 k.1) in
-    ap unlocated h.3.is ∙ ap unlocated (one_record name h.0 k.0 h.3.bare k.3.bare trees h.3.bare_is k.3.bare_is) ∙ sym (ap unlocated k.3.is)
+    ap records.unlocated h.3.is ∙ ap records.unlocated (one_record name h.0 k.0 h.3.bare k.3.bare trees h.3.bare_is k.3.bare_is) ∙ sym (ap records.unlocated k.3.is)

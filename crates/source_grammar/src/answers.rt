@@ -7,7 +7,7 @@ ghost use Rattle.protox_parse.specs.declared.error.ParseError.TheVariants.{Refus
 ghost use Rattle.protox_parse.specs.declared.error.Refusal.{Refusal};
 ghost use Rattle.source_grammar.specs.Answers.{AreFaultsIn, IsRecordIn};
 ghost use Rattle.source_grammar.specs.SameTokens.{HaveSameTokens};
-ghost use Rattle.std.specs.Prelude.{◌≡◌, ◌↔◌, Err, None, Ok};
+ghost use Rattle.std.specs.Prelude.{◌≡◌, ◌↔◌, Err, Ok};
 
 /// A source is answered with a record exactly where its tokens are those of a tree without faults,
 /// and the record is the tree's.
@@ -28,6 +28,5 @@ pub fn sources_are_refused_for_their_faults()
 pub fn sources_of_the_same_tokens_have_the_same_record()
     ensures { (name z w : Text) (a b : FileDescriptorProto) → HaveSameTokens z w
         → IsAnswered name z (Ok a) → IsAnswered name w (Ok b)
-        → record (records.file_view a) { source_code_info = None }
-        ≡ record (records.file_view b) { source_code_info = None } }
+        → records.unlocated (records.file_view a) ≡ records.unlocated (records.file_view b) }
 {}

@@ -20,7 +20,7 @@ use Rattle.reflect_options.specs.Settled.{Settles}
 use Rattle.reflect_tables.specs.Types.{PoolType}
 use Rattle.reflect_wire.specs.Written.{AreBytes}
 use Rattle.schema_view.specs.Views.{View, view_of}
-use Rattle.stored_options.proofs.Unplaced.{one_view}
+use Rattle.stored_options.proofs.Unlocated.{one_view}
 use Rattle.stored_options.proofs.Again.{no_items, no_paths, same_bytes}
 use Rattle.stored_options.proofs.Later.{of_an_entry}
 use Rattle.stored_options.proofs.Linking.{said_as_before}

@@ -2,7 +2,7 @@
 use Rattle.std.proofs.Common.{◌≡◌, ◌∙◌, ◌++◌, ℕ, Bool, true, false, List, map, sym, subst}
 use Rattle.std.specs.Prelude.{MatchBool}
 use Rattle.std.specs.List.{Contains}
-use Rattle.descriptor_records.specs.Content.{FileContent, Text, file_view}
+use Rattle.descriptor_records.specs.Content.{FileContent, Text, file_view, unlocated}
 use Rattle.stored_options.specs.SetOptions.{LeadAlike}
 use Rattle.option_setter.specs.OptionNames.{MeansExtension}
 use Rattle.option_setter.specs.declared.option_setter.NameScope.{NameScope}
@@ -20,7 +20,6 @@ use Rattle.schema_view.proofs.Lists.{contains_map, contains_map_cases}
 use Rattle.schema_view.proofs.Nested.{AreNested}
 use Rattle.schema_view.proofs.Road.{AreLinked, built_linked}
 use Rattle.linked_view.proofs.Means.{Holding, Wanted, means_to}
-use Rattle.settled_records.specs.Alike.{unplaced}
 use Rattle.stored_options.specs.Standing.{HaveOneEnd, StandsIn}
 use Rattle.stored_options.proofs.Built.{built_nested, earlier_sources, earlier_there}
 use Rattle.stored_options.proofs.Numbers.{NumbersExtension, NumbersField, one_extension, one_field}
@@ -29,15 +28,15 @@ use Rattle.stored_options.proofs.LooksUp.{LooksUp, StandsAmong}
 use Rattle.stored_options.proofs.Pool.{stands_among}
 use Rattle.stored_options.proofs.Seen.{one_file, seen_there}
 use Rattle.stored_options.proofs.Led.{LeadsOutside, leads_to}
-use Rattle.stored_options.proofs.Unplaced.{builds_unplaced, outlines_unplaced, plain_placed, plain_there, plain_unplaced, same_there}
-use Rattle.stored_options.proofs.UnplacedNames.{leads_bare, stands_bare}
+use Rattle.stored_options.proofs.Unlocated.{builds_unlocated, outlines_unlocated, plain_placed, plain_there, plain_unlocated, same_there}
+use Rattle.stored_options.proofs.UnlocatedNames.{leads_bare, stands_bare}
 
 -- what is among others is so without places
 maps_within : (xs ys : List FileContent) → ((f : FileContent) → Contains xs f → Contains ys f)
-    → (f : FileContent) → Contains (map unplaced xs) f → Contains (map unplaced ys) f
+    → (f : FileContent) → Contains (map unlocated xs) f → Contains (map unlocated ys) f
 maps_within xs ys within f i =
-    let g = contains_map_cases unplaced xs f i in
-    subst (Contains (map unplaced ys)) g.2 (contains_map unplaced ys g.0 (within g.0 g.1))
+    let g = contains_map_cases unlocated xs f i in
+    subst (Contains (map unlocated ys)) g.2 (contains_map unlocated ys g.0 (within g.0 g.1))
 
 module _ (batches others : List (List FileContent)) (p q : PoolType) (s t : NameScope)
     (file scope : Text) (ends : HaveOneEnd batches others) (a : StandsIn batches p s file scope)
@@ -50,17 +49,17 @@ module _ (batches others : List (List FileContent)) (p q : PoolType) (s t : Name
   there = map file_view b.typed.but.linked.records
 
   abbrev fs : List FileContent
-  fs = map unplaced here
+  fs = map unlocated here
 
   abbrev gs : List FileContent
-  gs = map unplaced there
+  gs = map unlocated there
 
   abbrev every : List FileContent
-  every = map unplaced ends.after
+  every = map unlocated ends.after
 
   all : AreLinked every
-  all = built_linked (map (map unplaced) (ends.more ++ batches)) every
-      (builds_unplaced (ends.more ++ batches) ends.after ends.built)
+  all = built_linked (map (map unlocated) (ends.more ++ batches)) every
+      (builds_unlocated (ends.more ++ batches) ends.after ends.built)
 
   left : (f : FileContent) → Contains fs f → Contains every f
   left = maps_within here ends.after
@@ -68,37 +67,37 @@ module _ (batches others : List (List FileContent)) (p q : PoolType) (s t : Name
 
   plain_too : (f : FileContent) → Contains (sources (ends.further ++ others)) f → IsPlainFile f
   plain_too f i =
-      let g = contains_map_cases unplaced (sources (ends.more ++ batches)) (unplaced f)
-      ((ends.same (unplaced f)).1 (contains_map unplaced (sources (ends.further ++ others)) f i)) in
-      plain_placed f (subst IsPlainFile g.2 (plain_unplaced g.0 (ends.plain g.0 g.1)))
+      let g = contains_map_cases unlocated (sources (ends.more ++ batches)) (unlocated f)
+      ((ends.same (unlocated f)).1 (contains_map unlocated (sources (ends.further ++ others)) f i)) in
+      plain_placed f (subst IsPlainFile g.2 (plain_unlocated g.0 (ends.plain g.0 g.1)))
 
   right : (g : FileContent) → Contains gs g → Contains every g
   right g i =
-      files_there (map (map unplaced) (ends.further ++ others))
-      (map (map unplaced) (ends.more ++ batches)) (map unplaced ends.last) every
+      files_there (map (map unlocated) (ends.further ++ others))
+      (map (map unlocated) (ends.more ++ batches)) (map unlocated ends.last) every
       (plain_there (ends.further ++ others) plain_too)
       (same_there (ends.further ++ others) (ends.more ++ batches)
       (λ f. ((ends.same f).1, (ends.same f).0)))
-      (builds_unplaced (ends.further ++ others) ends.last ends.also)
-      (builds_unplaced (ends.more ++ batches) ends.after ends.built) g
+      (builds_unlocated (ends.further ++ others) ends.last ends.also)
+      (builds_unlocated (ends.more ++ batches) ends.after ends.built) g
       (maps_within there ends.last
       (earlier_there ends.further others there ends.last b.typed.but.built.built ends.also) g i)
 
   linked_here : AreLinked fs
-  linked_here = built_linked (map (map unplaced) batches) fs
-      (builds_unplaced batches here a.typed.but.built.built)
+  linked_here = built_linked (map (map unlocated) batches) fs
+      (builds_unlocated batches here a.typed.but.built.built)
 
   linked_there : AreLinked gs
-  linked_there = built_linked (map (map unplaced) others) gs
-      (builds_unplaced others there b.typed.but.built.built)
+  linked_there = built_linked (map (map unlocated) others) gs
+      (builds_unlocated others there b.typed.but.built.built)
 
   nested : AreNested (outlines fs)
-  nested = subst AreNested (sym (outlines_unplaced here))
+  nested = subst AreNested (sym (outlines_unlocated here))
       (built_nested batches here a.typed.but.built.built
       (λ f i. ends.plain f (earlier_sources ends.more batches f i)))
 
   nested_too : AreNested (outlines gs)
-  nested_too = subst AreNested (sym (outlines_unplaced there))
+  nested_too = subst AreNested (sym (outlines_unlocated there))
       (built_nested others there b.typed.but.built.built
       (λ f i. plain_too f (earlier_sources ends.further others f i)))
 

@@ -43,8 +43,8 @@ pub mod StoredTwice
 pub mod RefusedOptions
 pub mod OfSources
 pub mod Built
-pub mod Unplaced
-pub mod UnplacedNames
+pub mod Unlocated
+pub mod UnlocatedNames
 pub mod Seen
 pub mod Placed
 pub mod Entries

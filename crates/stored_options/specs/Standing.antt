@@ -1,13 +1,12 @@
 -- Where options stand, in pools whose batches brought the same files in another order.
 use Rattle.std.specs.Prelude.{◌≡◌, ◌++◌, ℕ, List, Some, Contains, map, slice_get}
-use Rattle.descriptor_records.specs.Content.{Text, FileContent}
+use Rattle.descriptor_records.specs.Content.{Text, FileContent, unlocated}
 use Rattle.option_setter.specs.declared.option_setter.NameScope.{NameScope}
 use Rattle.reflect_options.specs.Settling.{SeesFrom}
 use Rattle.reflect_pool.specs.Imports.{names_of_files}
 use Rattle.reflect_tables.specs.Types.{PoolType}
 use Rattle.schema_view.specs.Lawful.{Builds, SameFiles, sources}
 use Rattle.schema_view.specs.Plain.{IsPlainFile}
-use Rattle.settled_records.specs.Alike.{unplaced}
 use Rattle.types_view.specs.Pools.{IsPool}
 use Rattle.types_view.specs.Typed.{IsTyped}
 
@@ -33,5 +32,5 @@ pub record HaveOneEnd (batches others : List (List FileContent)) : Type 0 where
   pub built : Builds (more ++ batches) after
   pub also : Builds (further ++ others) last
   pub plain : (f : FileContent) → Contains (sources (more ++ batches)) f → IsPlainFile f
-  pub same : SameFiles (map unplaced (sources (more ++ batches)))
-      (map unplaced (sources (further ++ others)))
+  pub same : SameFiles (map unlocated (sources (more ++ batches)))
+      (map unlocated (sources (further ++ others)))

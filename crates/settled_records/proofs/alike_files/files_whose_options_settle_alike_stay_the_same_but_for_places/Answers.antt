@@ -1,5 +1,5 @@
-use Rattle.settled_records.proofs.Unplaced.{settle_unplaced}
+use Rattle.settled_records.proofs.Unlocated.{settle_unlocated}
 use Rattle.settled_records.proofs.alike_files.files_whose_options_settle_alike_stay_the_same_but_for_places.Goals as goal
 
 pub returns : goal.returns
-returns c = settle_unplaced
+returns c = settle_unlocated

@@ -5,7 +5,7 @@ use Rattle.std.proofs.lemmas.List.{map-append}
 use Rattle.std.proofs.lemmas.List.Sums.{fold-append}
 use Rattle.std.specs.List.{AllByRecursion}
 use Rattle.std.specs.Option.{option_map}
-use Rattle.descriptor_records.specs.Content.{FileContent, OptionsContent, file_view, options_view}
+use Rattle.descriptor_records.specs.Content.{FileContent, OptionsContent, file_view, options_view, unlocated}
 use Rattle.descriptor_records.specs.declared.file.FileDescriptorProto.{FileDescriptorProto}
 use Rattle.descriptor_records.specs.declared.options.Options.{Options}
 use Rattle.descriptor_records.specs.declared.source_info.Location.{Location}
@@ -22,7 +22,7 @@ use Rattle.reflect_tables.specs.Types.{PoolType}
 use Rattle.settled_records.proofs.Changes.{Change, change_of, changed}
 use Rattle.settled_records.proofs.Pools.{entities_alike, in_pool}
 use Rattle.settled_records.proofs.Walk.{same_entities}
-use Rattle.settled_records.specs.Alike.{AllSettleAlike, unplaced}
+use Rattle.settled_records.specs.Alike.{AllSettleAlike}
 
 -- ---- edits of locations leave all else, and those of options all locations
 
@@ -34,22 +34,22 @@ abbrev OfOptions : Edit → Type 0
 OfOptions (edits.Options file path options) = Unit {0}
 OfOptions (edits.Location file place path) = ⊥
 
-left_by_locations : (es : List Edit) → AllByRecursion OfLocation es → (x : FileContent) → unplaced (changed x (map change_of es)) ≡ unplaced x
+left_by_locations : (es : List Edit) → AllByRecursion OfLocation es → (x : FileContent) → unlocated (changed x (map change_of es)) ≡ unlocated x
 left_by_locations [] all x = refl
 left_by_locations (edits.Options file path options ∷ es) all x = absurd all.0
 left_by_locations (edits.Location file place path ∷ es) all x = left_by_locations es all.1 (change_of (edits.Location file place path) x)
 
-put_unplaced : (path : List ℤ) (o : OptionsContent) (x : FileContent) → unplaced (file_put path o x) ≡ file_put path o (unplaced x)
-put_unplaced [] o x = refl
-put_unplaced (number ∷ []) o x = refl
-put_unplaced (number ∷ place ∷ rest) o x = refl
+put_unlocated : (path : List ℤ) (o : OptionsContent) (x : FileContent) → unlocated (file_put path o x) ≡ file_put path o (unlocated x)
+put_unlocated [] o x = refl
+put_unlocated (number ∷ []) o x = refl
+put_unlocated (number ∷ place ∷ rest) o x = refl
 
-by_options : (es : List Edit) → AllByRecursion OfOptions es → (x : FileContent) → unplaced (changed x (map change_of es)) ≡ changed (unplaced x) (map change_of es)
+by_options : (es : List Edit) → AllByRecursion OfOptions es → (x : FileContent) → unlocated (changed x (map change_of es)) ≡ changed (unlocated x) (map change_of es)
 by_options [] all x = refl
 by_options (edits.Location file place path ∷ es) all x = absurd all.0
 by_options (edits.Options file path options ∷ es) all x =
     let put : Change = file_put path.items (options_view options) in
-    by_options es all.1 (put x) ∙ ap (λ (y : FileContent). changed y (map change_of es)) (put_unplaced path.items (options_view options) x)
+    by_options es all.1 (put x) ∙ ap (λ (y : FileContent). changed y (map change_of es)) (put_unlocated path.items (options_view options) x)
 
 -- ---- the edits that settle a file
 
@@ -83,19 +83,19 @@ all_locations targets file place (l ∷ ls) es (to, own, rest, moves, edit, othe
 -- but for places a file comes to what its options alone make of it
 comes_to : (pool : PoolType) (i : ℕ) (f : FileDescriptorProto) (es options moved : List Edit) (ms : List Move) → SettlesAll pool (file_entities i f) options ms
     → EditsLocations (target_in ms) i 0 (locations f) moved → es ≡ options ++ moved → (x : FileContent)
-    → unplaced (changed x (map change_of es)) ≡ changed (unplaced x) (map change_of options)
+    → unlocated (changed x (map change_of es)) ≡ changed (unlocated x) (map change_of options)
 comes_to pool i f es options moved ms settles locates is x =
-    ap (λ (cs : List Change). unplaced (changed x cs)) (ap (map change_of) is ∙ map-append change_of options moved)
-    ∙ ap unplaced (fold-append (λ (y : FileContent) (c : Change). c y) x (map change_of options) (map change_of moved))
+    ap (λ (cs : List Change). unlocated (changed x cs)) (ap (map change_of) is ∙ map-append change_of options moved)
+    ∙ ap unlocated (fold-append (λ (y : FileContent) (c : Change). c y) x (map change_of options) (map change_of moved))
     ∙ left_by_locations moved (all_locations (target_in ms) i 0 (locations f) moved locates) (changed x (map change_of options))
     ∙ by_options options (all_options pool (file_entities i f) options ms settles) x
 
 -- ---- the pools
 
-pub settle_unplaced : (p q new other : PoolType) (first second i j : ℕ) (f g : FileDescriptorProto) → SettlesPool p first new → SettlesPool q second other → first ≤ i → i < length p.files
-    → second ≤ j → j < length q.files → slice_get p.records i ≡ Some f → slice_get q.records j ≡ Some g → unplaced (file_view f) ≡ unplaced (file_view g) → AllSettleAlike p q i j f g
-    → option_map unplaced (slice_get (map file_view new.records) i) ≡ option_map unplaced (slice_get (map file_view other.records) j)
-settle_unplaced p q new other first second i j f g settles settled far near beyond within found there same agree =
+pub settle_unlocated : (p q new other : PoolType) (first second i j : ℕ) (f g : FileDescriptorProto) → SettlesPool p first new → SettlesPool q second other → first ≤ i → i < length p.files
+    → second ≤ j → j < length q.files → slice_get p.records i ≡ Some f → slice_get q.records j ≡ Some g → unlocated (file_view f) ≡ unlocated (file_view g) → AllSettleAlike p q i j f g
+    → option_map unlocated (slice_get (map file_view new.records) i) ≡ option_map unlocated (slice_get (map file_view other.records) j)
+settle_unlocated p q new other first second i j f g settles settled far near beyond within found there same agree =
     let a = in_pool p new first i f settles far near found in
     let b = in_pool q other second j g settled beyond within there in
     by a.0 b.0 a.1 b.1 a.2 b.2
@@ -103,11 +103,11 @@ settle_unplaced p q new other first second i j f g settles settled far near beyo
     by : (es ds : List Edit) → SettlesFile p i f es → SettlesFile q j g ds
         → slice_get (map file_view new.records) i ≡ Some (changed (file_view f) (map change_of es))
         → slice_get (map file_view other.records) j ≡ Some (changed (file_view g) (map change_of ds))
-        → option_map unplaced (slice_get (map file_view new.records) i) ≡ option_map unplaced (slice_get (map file_view other.records) j)
+        → option_map unlocated (slice_get (map file_view new.records) i) ≡ option_map unlocated (slice_get (map file_view other.records) j)
     by es ds (options, moved, ms, set, locates, is) (others, went, ns, put, located, are) here its =
         let changes : map change_of options ≡ map change_of others =
         (entities_alike p q (file_entities i f) (file_entities j g) options others ms ns (same_entities i j f g same) agree set put).0 in
-        let content : changed (unplaced (file_view f)) (map change_of options) ≡ changed (unplaced (file_view g)) (map change_of others) = λ k. changed (same k) (changes k) in
-        ap (option_map unplaced) here
+        let content : changed (unlocated (file_view f)) (map change_of options) ≡ changed (unlocated (file_view g)) (map change_of others) = λ k. changed (same k) (changes k) in
+        ap (option_map unlocated) here
         ∙ ap Some (comes_to p i f es options moved ms set locates is (file_view f) ∙ content ∙ sym (comes_to q j g ds others went ns put located are (file_view g)))
-        ∙ sym (ap (option_map unplaced) its)
+        ∙ sym (ap (option_map unlocated) its)
