@@ -203,6 +203,17 @@ impl<'p> Iterator for Files<'p> {
         self.places = others;
         file_at(self.pool, *place)
     }
+
+    fn size_hint(&self) -> (usize, Option<usize>) {
+        let left = self.len();
+        (left, Some(left))
+    }
+}
+
+impl<'p> ExactSizeIterator for Files<'p> {
+    fn len(&self) -> usize {
+        self.places.len()
+    }
 }
 
 /// The file at a place, if there is one.

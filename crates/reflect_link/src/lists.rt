@@ -31,6 +31,17 @@ impl<'p> Iterator for Messages<'p> {
         self.places = others;
         self.pool.message_at(*place)
     }
+
+    fn size_hint(&self) -> (usize, Option<usize>) {
+        let left = self.len();
+        (left, Some(left))
+    }
+}
+
+impl<'p> ExactSizeIterator for Messages<'p> {
+    fn len(&self) -> usize {
+        self.places.len()
+    }
 }
 
 /// Enum types, as they were declared.
@@ -58,6 +69,17 @@ impl<'p> Iterator for Enums<'p> {
         self.places = others;
         self.pool.enum_at(*place)
     }
+
+    fn size_hint(&self) -> (usize, Option<usize>) {
+        let left = self.len();
+        (left, Some(left))
+    }
+}
+
+impl<'p> ExactSizeIterator for Enums<'p> {
+    fn len(&self) -> usize {
+        self.places.len()
+    }
 }
 
 /// Extensions, as they were declared.
@@ -84,5 +106,16 @@ impl<'p> Iterator for Extensions<'p> {
         let (place, others) = self.places.split_first()?;
         self.places = others;
         self.pool.extension_at(*place)
+    }
+
+    fn size_hint(&self) -> (usize, Option<usize>) {
+        let left = self.len();
+        (left, Some(left))
+    }
+}
+
+impl<'p> ExactSizeIterator for Extensions<'p> {
+    fn len(&self) -> usize {
+        self.places.len()
     }
 }

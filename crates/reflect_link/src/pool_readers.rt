@@ -145,6 +145,17 @@ impl<'p> Iterator for AllFiles<'p> {
             None
         }
     }
+
+    fn size_hint(&self) -> (usize, Option<usize>) {
+        let left = self.len();
+        (left, Some(left))
+    }
+}
+
+impl<'p> ExactSizeIterator for AllFiles<'p> {
+    fn len(&self) -> usize {
+        self.end.saturating_sub(self.next) as usize
+    }
 }
 
 /// The message types of a pool, by their places.
@@ -175,6 +186,17 @@ impl<'p> Iterator for AllMessages<'p> {
             None
         }
     }
+
+    fn size_hint(&self) -> (usize, Option<usize>) {
+        let left = self.len();
+        (left, Some(left))
+    }
+}
+
+impl<'p> ExactSizeIterator for AllMessages<'p> {
+    fn len(&self) -> usize {
+        self.end.saturating_sub(self.next) as usize
+    }
 }
 
 /// The enum types of a pool, by their places.
@@ -204,6 +226,17 @@ impl<'p> Iterator for AllEnums<'p> {
         } else {
             None
         }
+    }
+
+    fn size_hint(&self) -> (usize, Option<usize>) {
+        let left = self.len();
+        (left, Some(left))
+    }
+}
+
+impl<'p> ExactSizeIterator for AllEnums<'p> {
+    fn len(&self) -> usize {
+        self.end.saturating_sub(self.next) as usize
     }
 }
 
@@ -236,6 +269,17 @@ impl<'p> Iterator for AllExtensions<'p> {
             None
         }
     }
+
+    fn size_hint(&self) -> (usize, Option<usize>) {
+        let left = self.len();
+        (left, Some(left))
+    }
+}
+
+impl<'p> ExactSizeIterator for AllExtensions<'p> {
+    fn len(&self) -> usize {
+        self.end.saturating_sub(self.next) as usize
+    }
 }
 
 /// The services of a pool, by their places.
@@ -266,6 +310,17 @@ impl<'p> Iterator for AllServices<'p> {
             None
         }
     }
+
+    fn size_hint(&self) -> (usize, Option<usize>) {
+        let left = self.len();
+        (left, Some(left))
+    }
+}
+
+impl<'p> ExactSizeIterator for AllServices<'p> {
+    fn len(&self) -> usize {
+        self.end.saturating_sub(self.next) as usize
+    }
 }
 
 /// The records of a pool's files.
@@ -288,5 +343,16 @@ impl<'p> Iterator for FileRecords<'p> {
         let (file, others) = self.rest.split_first()?;
         self.rest = others;
         Some(&file.record)
+    }
+
+    fn size_hint(&self) -> (usize, Option<usize>) {
+        let left = self.len();
+        (left, Some(left))
+    }
+}
+
+impl<'p> ExactSizeIterator for FileRecords<'p> {
+    fn len(&self) -> usize {
+        self.rest.len()
     }
 }

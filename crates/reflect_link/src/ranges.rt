@@ -37,6 +37,17 @@ impl<'p> Iterator for ReservedRanges<'p> {
         self.rest = others;
         Some(bound(range.start)..bound(range.end))
     }
+
+    fn size_hint(&self) -> (usize, Option<usize>) {
+        let left = self.len();
+        (left, Some(left))
+    }
+}
+
+impl<'p> ExactSizeIterator for ReservedRanges<'p> {
+    fn len(&self) -> usize {
+        self.rest.len()
+    }
 }
 
 /// Ranges of field numbers that are kept for extensions.
@@ -59,6 +70,17 @@ impl<'p> Iterator for ExtensionRanges<'p> {
         let (range, others) = self.rest.split_first()?;
         self.rest = others;
         Some(bound(range.start)..bound(range.end))
+    }
+
+    fn size_hint(&self) -> (usize, Option<usize>) {
+        let left = self.len();
+        (left, Some(left))
+    }
+}
+
+impl<'p> ExactSizeIterator for ExtensionRanges<'p> {
+    fn len(&self) -> usize {
+        self.rest.len()
     }
 }
 
@@ -85,6 +107,17 @@ impl<'p> Iterator for EnumReservedRanges<'p> {
         self.rest = others;
         Some(range.start.unwrap_or(0)..=range.end.unwrap_or(0))
     }
+
+    fn size_hint(&self) -> (usize, Option<usize>) {
+        let left = self.len();
+        (left, Some(left))
+    }
+}
+
+impl<'p> ExactSizeIterator for EnumReservedRanges<'p> {
+    fn len(&self) -> usize {
+        self.rest.len()
+    }
 }
 
 /// Names that are reserved.
@@ -107,5 +140,16 @@ impl<'p> Iterator for ReservedNames<'p> {
         let (name, others) = self.rest.split_first()?;
         self.rest = others;
         Some(name.as_str())
+    }
+
+    fn size_hint(&self) -> (usize, Option<usize>) {
+        let left = self.len();
+        (left, Some(left))
+    }
+}
+
+impl<'p> ExactSizeIterator for ReservedNames<'p> {
+    fn len(&self) -> usize {
+        self.rest.len()
     }
 }

@@ -169,6 +169,17 @@ impl<'p> Iterator for Services<'p> {
         self.places = others;
         service_in(self.pool, *place)
     }
+
+    fn size_hint(&self) -> (usize, Option<usize>) {
+        let left = self.len();
+        (left, Some(left))
+    }
+}
+
+impl<'p> ExactSizeIterator for Services<'p> {
+    fn len(&self) -> usize {
+        self.places.len()
+    }
 }
 
 /// The service at a place, if there is one.
@@ -214,6 +225,17 @@ impl<'p> Iterator for Methods<'p> {
         } else {
             None
         }
+    }
+
+    fn size_hint(&self) -> (usize, Option<usize>) {
+        let left = self.len();
+        (left, Some(left))
+    }
+}
+
+impl<'p> ExactSizeIterator for Methods<'p> {
+    fn len(&self) -> usize {
+        self.end.saturating_sub(self.next) as usize
     }
 }
 

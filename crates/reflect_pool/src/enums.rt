@@ -180,6 +180,18 @@ impl<'p> Iterator for EnumValues<'p> {
         self.next += 1;
         Some(value)
     }
+
+    fn size_hint(&self) -> (usize, Option<usize>) {
+        let left = self.len();
+        (left, Some(left))
+    }
+}
+
+impl<'p> ExactSizeIterator for EnumValues<'p> {
+    fn len(&self) -> usize {
+        let values = &self.enumeration.stored().values.list;
+        values.len().saturating_sub(self.next as usize)
+    }
 }
 
 /// A value of an enum type.

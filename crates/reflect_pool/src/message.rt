@@ -32,7 +32,7 @@ impl<'p> MessageDescriptor<'p> {
         self.pool
     }
 
-    fn stored(&self) -> &'p StoredMessage
+    pub(crate) fn stored(&self) -> &'p StoredMessage
         ensures view { message_of result.now ≡ type_at self.now.pool.now self.now.index }
         ensures within { MessageWithin (counts_of self.now.pool.now) (message_of result.now) }
     {
@@ -322,5 +322,17 @@ impl<'p> Iterator for Fields<'p> {
         let field = self.message.field_at(self.next)?;
         self.next += 1;
         Some(field)
+    }
+
+    fn size_hint(&self) -> (usize, Option<usize>) {
+        let left = self.len();
+        (left, Some(left))
+    }
+}
+
+impl<'p> ExactSizeIterator for Fields<'p> {
+    fn len(&self) -> usize {
+        let fields = &self.message.stored().fields.list;
+        fields.len().saturating_sub(self.next as usize)
     }
 }

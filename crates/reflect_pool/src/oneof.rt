@@ -144,6 +144,17 @@ impl<'p> Iterator for OneofFields<'p> {
         self.places = others;
         self.message.field_at(*place)
     }
+
+    fn size_hint(&self) -> (usize, Option<usize>) {
+        let left = self.len();
+        (left, Some(left))
+    }
+}
+
+impl<'p> ExactSizeIterator for OneofFields<'p> {
+    fn len(&self) -> usize {
+        self.places.len()
+    }
 }
 
 /// The oneofs of a message type, as they were declared.
@@ -167,5 +178,17 @@ impl<'p> Iterator for Oneofs<'p> {
         let oneof = self.message.oneof_at(self.next)?;
         self.next += 1;
         Some(oneof)
+    }
+
+    fn size_hint(&self) -> (usize, Option<usize>) {
+        let left = self.len();
+        (left, Some(left))
+    }
+}
+
+impl<'p> ExactSizeIterator for Oneofs<'p> {
+    fn len(&self) -> usize {
+        let oneofs = &self.message.stored().oneofs;
+        oneofs.len().saturating_sub(self.next as usize)
     }
 }

@@ -55,7 +55,7 @@ fn write_found(out: &mut Text, pool: &DescriptorPool, sort: &str, call: &Json) {
     let name = text(call, "name");
     match sort {
         "has_file" => write_truth(out, pool.has_file(name)),
-        "files" => out.push_shown("", file_count(pool)),
+        "files" => out.push_shown("", pool.files().len()),
         "message" => write_name(out, message_name(pool, name)),
         "extension" => write_name(out, extension_name(pool, name)),
         "value" => write_name(out, value_name(pool, call)),
@@ -65,16 +65,6 @@ fn write_found(out: &mut Text, pool: &DescriptorPool, sort: &str, call: &Json) {
         },
         _ => out.push_str("no call"),
     }
-}
-
-/// How many files the pool has.
-fn file_count(pool: &DescriptorPool) -> u64 {
-    let mut count: u64 = 0;
-    for _file in pool.files() {
-        // (no pool has so many that it would stay)
-        count = count.saturating_add(1);
-    }
-    count
 }
 
 /// The full name of the message type that the pool has by a name.
