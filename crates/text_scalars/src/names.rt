@@ -1,6 +1,7 @@
 //! How a text names fields.
 
-ghost use Rattle.std.specs.Prelude.{◌≡◌, ◌<◌, ◌≤◌, IfErr, IfOk, string_bytes, true};
+ghost use Rattle.std.specs.Prelude.{◌≡◌, ◌<◌, ◌≤◌, IfErr, IfOk, IfSome, IsErr, IsOk, OnErr, string_bytes, true};
+ghost use Rattle.text_scalars.specs.Front.{next, word_in};
 ghost use Rattle.text_model.specs.Value.{written};
 ghost use Rattle.text_scalars.specs.Left.{left};
 ghost use Rattle.text_scalars.specs.Names.{bracketed_at, full_name_at, name_at, separator_at, text_and_bytes, view_and_bytes};
@@ -35,6 +36,7 @@ impl<'a> Tokens<'a> {
     pub fn name(&mut self) -> Result<(Name<'a>, Span), ParseErrorKind>
         ensures read { ReadsLexemes view_and_bytes
             (seen_as text_and_bytes (name_at (remaining self.old))) result (remaining self.new) }
+        ensures plain { IfSome (next word_in (remaining self.old)) (λ _. IsOk result) }
         ensures taken { IfOk result (λ _. left self.new < left self.old) }
         ensures refused { IfErr result (λ kind. is_of_text kind ≡ true) }
     {
@@ -99,6 +101,7 @@ impl<'a> Tokens<'a> {
     pub fn separator(&mut self) -> Result<(), ParseErrorKind>
         ensures read { ReadsLexemes (λ x. x) (separator_at (remaining self.old))
             result (remaining self.new) }
+        ensures none { OnErr result (IsErr (separator_at (remaining self.old))) }
         ensures more { left self.new ≤ left self.old }
         ensures refused { IfErr result (λ kind. is_of_text kind ≡ true) }
     {

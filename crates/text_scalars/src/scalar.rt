@@ -1,6 +1,6 @@
 //! Values that are no messages.
 
-ghost use Rattle.std.specs.Prelude.{◌≡◌, ◌<◌, IfErr, IfOk, Some, codes, string_bytes, false, true};
+ghost use Rattle.std.specs.Prelude.{◌≡◌, ◌<◌, IfErr, IfOk, None, OnErr, Some, codes, string_bytes, false, true};
 ghost use Rattle.protobuf_model.specs.Types as kinds;
 ghost use Rattle.protobuf_model.specs.Values.{blob, int32, int64, text, truth, uint32, uint64};
 ghost use Rattle.text_scalars.specs.Left.{left};
@@ -52,6 +52,8 @@ impl<'a> Tokens<'a> {
         ensures read { ReadsValue int32 (value_at nameless kinds.int32 (remaining self.old))
             result (remaining self.new) }
         ensures told { IfErr result (RefusesInteger signed_32_bounds (remaining self.old)) }
+        ensures none { OnErr result
+            (value_at nameless kinds.int32 (remaining self.old) ≡ None) }
         ensures taken { IfOk result (λ _. left self.new < left self.old) }
         ensures refused { IfErr result (λ kind. is_of_text kind ≡ true) }
     {
@@ -67,6 +69,8 @@ impl<'a> Tokens<'a> {
         ensures read { ReadsValue int64 (value_at nameless kinds.int64 (remaining self.old))
             result (remaining self.new) }
         ensures told { IfErr result (RefusesInteger signed_64_bounds (remaining self.old)) }
+        ensures none { OnErr result
+            (value_at nameless kinds.int64 (remaining self.old) ≡ None) }
         ensures taken { IfOk result (λ _. left self.new < left self.old) }
         ensures refused { IfErr result (λ kind. is_of_text kind ≡ true) }
     {
@@ -82,6 +86,8 @@ impl<'a> Tokens<'a> {
         ensures read { ReadsValue uint32 (value_at nameless kinds.uint32 (remaining self.old))
             result (remaining self.new) }
         ensures told { IfErr result (RefusesInteger unsigned_32_bounds (remaining self.old)) }
+        ensures none { OnErr result
+            (value_at nameless kinds.uint32 (remaining self.old) ≡ None) }
         ensures taken { IfOk result (λ _. left self.new < left self.old) }
         ensures refused { IfErr result (λ kind. is_of_text kind ≡ true) }
     {
@@ -97,6 +103,8 @@ impl<'a> Tokens<'a> {
         ensures read { ReadsValue uint64 (value_at nameless kinds.uint64 (remaining self.old))
             result (remaining self.new) }
         ensures told { IfErr result (RefusesInteger unsigned_64_bounds (remaining self.old)) }
+        ensures none { OnErr result
+            (value_at nameless kinds.uint64 (remaining self.old) ≡ None) }
         ensures taken { IfOk result (λ _. left self.new < left self.old) }
         ensures refused { IfErr result (λ kind. is_of_text kind ≡ true) }
     {
@@ -113,6 +121,7 @@ impl<'a> Tokens<'a> {
             result (remaining self.new) }
         ensures told { IfErr result
             (IsUnexpected (truth_words (remaining self.old)) (remaining self.old)) }
+        ensures none { OnErr result (value_at nameless kinds.bool (remaining self.old) ≡ None) }
         ensures taken { IfOk result (λ _. left self.new < left self.old) }
         ensures refused { IfErr result (λ kind. is_of_text kind ≡ true) }
     {
