@@ -1,2 +1,4 @@
+pub mod Runs
 pub mod Statuses
+pub mod Tasks
 pub mod Texts

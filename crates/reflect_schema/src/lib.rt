@@ -3,6 +3,7 @@
 
 mod program;
 
-pub use program::run;
-pub use run_parts::{ReadFault, SourceFiles};
+pub use program::{RunFault, answer, run};
+pub use run_parts::{FileFault, ReadFault, SourceFiles};
 pub use schema_core::{Action, Fault, Schema, SchemaError, serve};
+pub use schema_words::{Request, Task};

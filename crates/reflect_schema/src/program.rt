@@ -1,8 +1,18 @@
 //! The program `schema`, over any files and any streams.
 
-ghost use Rattle.std.specs.Prelude.{◌≡◌, Some};
+ghost use Rattle.std.specs.Prelude.{◌≡◌, ◌⊎◌, IfErr, IfOk, OnErr, OnOk, Some, option_map};
+ghost use Rattle.std.specs.Io.KnownBytes.{Appends};
+ghost use Rattle.reflect_bytes.specs.Written.{pool_bytes};
+ghost use Rattle.reflect_schema.specs.Runs.{AddsSet, AddsSources, Begins, MakesSchema, source_names};
+ghost use Rattle.reflect_schema.specs.Runs.{RefusesFirst, RefusesNamed, RefusesSchema, RefusesSet};
 ghost use Rattle.reflect_schema.specs.Statuses.{status_of};
+ghost use Rattle.reflect_schema.specs.Tasks.{DoesTask, RefusesTask};
 ghost use Rattle.reflect_schema.specs.Texts.{said};
+ghost use Rattle.reflect_schema.specs.declared.program.RunFault.TheVariants as run;
+ghost use Rattle.reflect_tables.specs.Types.{PoolType};
+ghost use Rattle.schema_core.specs.Serving.{shown};
+ghost use Rattle.schema_core.specs.declared.error.SchemaError.TheVariants.{Memory};
+ghost use Rattle.schema_core.specs.declared.payload.Fault.TheVariants as fault;
 
 use run_parts::{
     FileFault, SourceFiles, read_file, read_sources, sources, tell_usage, text_of, write_line,
@@ -13,17 +23,20 @@ use std::alloc::Global;
 use std::fmt;
 use std::io::{Read, Write};
 
-/// Why a run ended without an answer.
+/// Why a request has no answer.
 #[derive(Drop)]
-enum RunFault {
+pub enum RunFault {
+    /// A file cannot be read, or is no text.
     File(FileFault),
+    /// The files make no schema.
     Schema(SchemaError),
+    /// The input is refused, or it or the output is at fault.
     Payload(Fault),
 }
 
 impl RunFault {
     /// The status that the program ends with.
-    fn status(&self) -> u8
+    pub fn status(&self) -> u8
         ensures { result ≡ status_of self.now }
     {
         match self {
@@ -50,18 +63,24 @@ impl fmt::Display for RunFault {
 }
 
 impl From<FileFault> for RunFault {
+    ghost from_gives = { λ fault e. e ≡ run.File fault };
+
     fn from(fault: FileFault) -> RunFault {
         RunFault::File(fault)
     }
 }
 
 impl From<SchemaError> for RunFault {
+    ghost from_gives = { λ error e. e ≡ run.Schema error };
+
     fn from(error: SchemaError) -> RunFault {
         RunFault::Schema(error)
     }
 }
 
 impl From<Fault> for RunFault {
+    ghost from_gives = { λ fault e. e ≡ run.Payload fault };
+
     fn from(fault: Fault) -> RunFault {
         RunFault::Payload(fault)
     }
@@ -72,7 +91,12 @@ fn first_schema<F: SourceFiles>(
     alloc: Global,
     files: &mut F,
     descriptor: Option<&str>,
-) -> Result<Schema, RunFault> {
+) -> Result<Schema, RunFault>
+    ensures begins { IfOk result (λ s. Begins F.read_gives
+        (option_map (λ path. path.now) descriptor.entry) files.old s.pool files.new) }
+    ensures refused { IfErr result (λ e. RefusesFirst F.read_gives
+        (option_map (λ path. path.now) descriptor.entry) files.old e files.new) }
+{
     let Some(path) = descriptor else {
         return Ok(Schema::bare(alloc));
     };
@@ -81,21 +105,57 @@ fn first_schema<F: SourceFiles>(
     Ok(Schema::new(alloc, text)?)
 }
 
+/// Adds the descriptor set at the path, where there is one.
+fn add_set<F: SourceFiles>(
+    alloc: Global,
+    files: &mut F,
+    set: Option<&str>,
+    schema: &mut Schema,
+) -> Result<(), RunFault>
+    ensures added { OnOk result (AddsSet F.read_gives (option_map (λ path. path.now) set.entry)
+        files.old schema.old.pool files.new schema.new.pool) }
+    ensures refused { IfErr result (λ e. RefusesSet F.read_gives
+        (option_map (λ path. path.now) set.entry) files.old schema.old.pool e files.new) }
+{
+    let Some(path) = set else {
+        return Ok(());
+    };
+    let bytes = read_file(alloc, files, path)?;
+    Ok(schema.add_descriptor_set(bytes.as_slice())?)
+}
+
+/// Adds the named sources.
+fn add_named<F: SourceFiles>(
+    alloc: Global,
+    files: &mut F,
+    wanted: Request<'_>,
+    schema: &mut Schema,
+) -> Result<(), RunFault>
+    ensures added { OnOk result (AddsSources F.read_gives wanted.entry.root.now
+        (source_names wanted.entry) files.old schema.old.pool files.new schema.new.pool) }
+    ensures refused { IfErr result (λ e. RefusesNamed F.read_gives wanted.entry.root.now
+        (source_names wanted.entry) files.old schema.old.pool e files.new) }
+{
+    let contents = read_sources(alloc, files, wanted)?;
+    let sources = sources(alloc, wanted.names, contents.as_slice())?;
+    Ok(schema.add_sources(sources.as_slice())?)
+}
+
 /// The schema of the files that are asked for: first what declares the types of options, then the
 /// set, then the sources.
 fn read_schema<F: SourceFiles>(
     alloc: Global,
     files: &mut F,
     wanted: Request<'_>,
-) -> Result<Schema, RunFault> {
+) -> Result<Schema, RunFault>
+    ensures made { IfOk result (λ s. MakesSchema F.read_gives wanted.entry files.old s.pool
+        files.new) }
+    ensures refused { IfErr result (λ e. RefusesSchema F.read_gives wanted.entry files.old e
+        files.new) }
+{
     let mut schema = first_schema(alloc, files, wanted.descriptor)?;
-    if let Some(path) = wanted.set {
-        let bytes = read_file(alloc, files, path)?;
-        schema.add_descriptor_set(bytes.as_slice())?;
-    }
-    let contents = read_sources(alloc, files, wanted)?;
-    let sources = sources(alloc, wanted.names, contents.as_slice())?;
-    schema.add_sources(sources.as_slice())?;
+    add_set(alloc, files, wanted.set, &mut schema)?;
+    add_named(alloc, files, wanted, &mut schema)?;
     Ok(schema)
 }
 
@@ -105,19 +165,44 @@ fn write_set<W: Write>(
     schema: &Schema,
     is_hex: bool,
     output: &mut W,
-) -> Result<(), RunFault> {
+) -> Result<(), RunFault>
+    ensures written { OnOk result (Appends (W.contents output.old) (W.contents output.new)
+        (shown is_hex (pool_bytes schema.now.pool))) }
+    ensures refused { IfErr result (λ e. (e ≡ run.Payload fault.Write)
+        ⊎ (((e ≡ run.Schema Memory) ⊎ (e ≡ run.Payload fault.Memory))
+        × (output.new ≡ output.old))) }
+{
     let bytes = schema.to_descriptor_set()?;
     Ok(write_bytes(alloc, is_hex, bytes.as_slice(), output)?)
 }
 
-/// Reads the schema, and does with it what is asked.
-fn answer<F: SourceFiles, R: Read, W: Write>(
+/// Does what a request asks for: makes the schema of its files, and writes its set, or reads
+/// `input` whole and writes what it is translated to.
+///
+/// `File` where a file cannot be read or is no text, `Schema` where the files make no schema; then
+/// no input is read. `Payload` where the input is refused, or it or the output is at fault. What
+/// the schema is refused for comes before what the input is refused for. Before a `Write` fault a
+/// part of the answer may be written; before any other, nothing is.
+pub fn answer<F: SourceFiles, R: Read, W: Write>(
     alloc: Global,
     wanted: Request<'_>,
     files: &mut F,
     input: &mut R,
     output: &mut W,
-) -> Result<(), RunFault> {
+) -> Result<(), RunFault>
+    ensures done { OnOk result ((p : PoolType)
+        × MakesSchema F.read_gives wanted.entry files.old p files.new
+        × DoesTask wanted.entry.task wanted.entry.is_hex p
+        (record { before = R.remaining input.old; behind = R.remaining input.new })
+        (record { before = W.contents output.old; behind = W.contents output.new })) }
+    ensures refused { IfErr result (λ e.
+        (RefusesSchema F.read_gives wanted.entry files.old e files.new
+        × (input.new ≡ input.old))
+        ⊎ ((p : PoolType) × MakesSchema F.read_gives wanted.entry files.old p files.new
+        × RefusesTask wanted.entry.task wanted.entry.is_hex p (R.remaining input.old) e)) }
+    ensures kept { IfErr result (λ e. (e ≡ run.Payload fault.Write)
+        ⊎ (output.new ≡ output.old)) }
+{
     let schema = read_schema(alloc, files, wanted)?;
     let is_hex = wanted.is_hex;
     match wanted.task {

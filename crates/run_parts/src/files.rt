@@ -1,9 +1,9 @@
 //! The files that a run reads.
 
 ghost use Rattle.std.specs.List.{zip};
-ghost use Rattle.std.specs.Prelude.{◌≡◌, ℕ, List, map, IfErr, IfOk, IsUtf8, Some};
+ghost use Rattle.std.specs.Prelude.{◌≡◌, ℕ, List, map, IfErr, IfOk, IsUtf8, OnOk, Some};
 ghost use Rattle.run_parts.specs.Reads.{IsToldAs, ReadsEach, RefusesSources, Reply};
-ghost use Rattle.run_parts.specs.Refusals.{RefusesOne, RefusesText};
+ghost use Rattle.run_parts.specs.Refusals.{AreTexts, RefusesOne, RefusesText};
 ghost use Rattle.run_parts.specs.Statuses.{status_of};
 ghost use Rattle.run_parts.specs.Texts.{said};
 ghost use Rattle.run_parts.specs.declared.files.FileFault.TheVariants as files;
@@ -145,6 +145,8 @@ pub fn sources<'a>(
 ) -> Result<Vec<(&'a str, &'a str)>, FileFault>
     ensures texts { IfOk result (λ all. map (λ s. (s.0.now, s.1.now)) all.items
         ≡ zip (map (λ n. n.now) names.now) (map (λ c. c.items) contents.now)) }
+    ensures utf8 { OnOk result (AreTexts
+        (zip (map (λ n. n.now) names.now) (map (λ c. c.items) contents.now))) }
     ensures refused { IfErr result (RefusesOne
         (zip (map (λ n. n.now) names.now) (map (λ c. c.items) contents.now))) }
 {
