@@ -104,7 +104,7 @@ module _ (pool : PoolType) (i : ℕ) (apart : AreApart pool) where
   abbrev IsFound : FieldType → Type 0
   IsFound f = numbered_field pool i f.number ≡ Some f
 
-  found_at : (k : ℕ) → k < length (type_at pool i).fields → IsFound (type_of_field pool i k)
+  pub found_at : (k : ℕ) → k < length (type_at pool i).fields → IsFound (type_of_field pool i k)
   found_at k lt =
       let n = (type_of_field pool i k).number in
       only_one (λ (f : FieldType). f.number ≡ n) (λ f. f.number == n) (numbered_at n) (type_at pool i).fields no_field k lt refl

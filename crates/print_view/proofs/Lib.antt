@@ -50,3 +50,9 @@ mod OneDecoder
 mod PutBytes
 mod ToldOnce
 mod WorkedTold
+mod Walking
+mod SetSeen
+mod OneOrder
+mod Alike
+mod AlikeSorts
+mod OneText

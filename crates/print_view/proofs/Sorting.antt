@@ -65,14 +65,14 @@ module _ {X : Type 0} (key : X → ℕ) where
   Rises [] = Unit {0}
   Rises (x ∷ xs) = AllByRecursion (λ y. key x ≤ key y) xs × Rises xs
 
-  rises : (xs : List X) → IsNonDecreasingBy key xs → Rises xs
+  pub rises : (xs : List X) → IsNonDecreasingBy key xs → Rises xs
   rises [] h = tt
   rises (x ∷ xs) h = (
     all_at (λ y. key x ≤ key y) x xs (λ k lt. h 0 (suc k) x (omega arith) (omega (arith, lt))),
     rises xs (λ i j d le lt. h (suc i) (suc j) d (omega (arith, le)) (omega (arith, lt))),
   )
 
-  none_of : (n : ℕ) (xs : List X) → AllByRecursion (λ y. suc n ≤ key y) xs → of_number n xs ≡ []
+  pub none_of : (n : ℕ) (xs : List X) → AllByRecursion (λ y. suc n ≤ key y) xs → of_number n xs ≡ []
   none_of n [] h = refl
   none_of n (x ∷ xs) h =
       let le = h.0 in
@@ -113,7 +113,7 @@ module _ {X : Type 0} (key : X → ℕ) where
 
   -- of a number what is sorted has what there was, in its order
   module _ (at : ℕ → X) (numbered : (n : ℕ) → key (at n) ≡ n) (found xs : List X) (sorted : IsSortedByKey key nat_cmp xs) (stable : IsStableByKey key nat_cmp found xs) where
-    as_found : (n : ℕ) → of_number n xs ≡ of_number n found
+    pub as_found : (n : ℕ) → of_number n xs ≡ of_number n found
     as_found n =
         let tied : (x : X) → ties (λ x y. is_lt (nat_cmp (key x) (key y))) (at n) x ≡ (key x == n) = λ x. neither (key (at n)) (key x) ∙ ap (λ k. key x == k) (numbered n) in
         sym (filter_same (ties (λ x y. is_lt (nat_cmp (key x) (key y))) (at n)) (λ x. key x == n) tied xs) ∙ stable (at n)

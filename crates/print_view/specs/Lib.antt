@@ -3,3 +3,4 @@ pub mod Expansions
 pub mod InBytes
 pub mod Readable
 pub mod Told
+pub mod Walked

@@ -7,3 +7,4 @@ pub mod decoder;
 pub mod laws;
 pub mod told;
 pub mod unknown;
+pub mod walks;

@@ -25,3 +25,4 @@ pub mod Texts
 pub mod Undotted
 pub mod Words
 pub mod SmallNumbers
+pub mod Spanning

@@ -46,11 +46,11 @@ few_before test z offset i (suc n) =
     one_more offset i (places_from test z (i + 1) n) (few_before test z offset (i + 1) n)
     (test (get_or z i 0))
 
-line_before : (z : Text) (offset : ℕ) → line_at (feeds_of z) offset ≤ offset
+pub line_before : (z : Text) (offset : ℕ) → line_at (feeds_of z) offset ≤ offset
 line_before z offset =
     omega (arith, few_before (is_byte 10) z offset 0 (length z - 0))
 
-counted_small : (n : ℕ) → counted n < 2 ^ 31
+pub counted_small : (n : ℕ) → counted n < 2 ^ 31
 counted_small n = omega arith
 
 span_fits : (z : Text) (span : Span) → AllByRecursion FitsInt32 (place_at (feeds_of z) span)
@@ -146,7 +146,7 @@ module _ {X : Type 0} (P : X → Type 0) (less : X → X → Bool) (order : IsSt
     rest true ys h = h.1
     rest false ys h = h
 
-  all_sorted : (xs ys : List X) → IsStableBy less xs ys → AllByRecursion P xs
+  pub all_sorted : (xs ys : List X) → IsStableBy less xs ys → AllByRecursion P xs
       → AllByRecursion P ys
   all_sorted xs ys stable h =
       from_ties ys (λ x. subst (AllByRecursion P) (sym (stable x)) (all_filtered (ties less x) xs h))

@@ -1,1 +1,2 @@
 pub mod TreeNames
+pub mod Spanned

@@ -8,10 +8,13 @@ ghost use Rattle.protox_file.specs.Sources.{Spells};
 ghost use Rattle.protox_lex.specs.Class.{Text};
 ghost use Rattle.protox_parse.specs.Answers.{IsAnswered};
 ghost use Rattle.protox_tree.specs.FileTree.{File};
+ghost use Rattle.reflect_names.specs.Spans.{locations};
 ghost use Rattle.schema_view.specs.Plain as names;
+ghost use Rattle.source_laws.specs.Spanned.{HasSpan};
 ghost use Rattle.source_laws.specs.TreeNames.{HasIdentifiers};
 ghost use Rattle.source_records.specs.LoneLists.{GivesLoneLists};
 ghost use Rattle.source_records.specs.SourceNames.{IsSourceFile};
+ghost use Rattle.std.specs.List.{AllByRecursion};
 ghost use Rattle.std.specs.Prelude.{Ok};
 
 /// Each declaration of the tree that a text spells has an identifier for a name.
@@ -48,4 +51,11 @@ pub fn records_of_sources_are_plain()
 pub fn records_of_sources_have_their_options()
     ensures { (name z : Text) (made : FileDescriptorProto)
         → IsAnswered name z (Ok made) → IsPlainFile AreOfSource 99 (file_view made) }
+{}
+
+/// Each location of a source has a span, whose lines and columns are below 2^31: so wherever a path
+/// has a location, the place of the first of them is told.
+pub fn locations_of_sources_have_spans()
+    ensures { (name z : Text) (made : FileDescriptorProto) → IsAnswered name z (Ok made)
+        → AllByRecursion HasSpan (locations made) }
 {}

@@ -82,7 +82,7 @@ module _ (m : MessageDescriptor) (apart : AreApart m.pool.now) where
   pub called_owns : (w : Text) → OwnsMeant (HasName w) m
   called_owns w f meant = field_owns f meant.message meant.first.0 meant.held
 
-  extension_first : (x : ExtensionDescriptor) → x.pool.now ≡ m.pool.now → (extension_at x.pool.now x.index).extendee ≡ m.index → x.index < length m.pool.now.extensions
+  pub extension_first : (x : ExtensionDescriptor) → x.pool.now ≡ m.pool.now → (extension_at x.pool.now x.index).extendee ≡ m.index → x.index < length m.pool.now.extensions
       → FindsAny (λ y. (y.extendee ≡ m.index) × (y.field.number ≡ (extension_type x).number)) m.pool.now (Some x)
   extension_first x pool of lt = (lt, ((λ d. (ap (λ (y : ExtensionType). y.extendee) (there d) ∙ of, ap (λ (y : ExtensionType). y.field.number) (there d))), before)) where
     there : (d : ExtensionType) → slice_index_or m.pool.now.extensions x.index d ≡ extension_at x.pool.now x.index

@@ -59,7 +59,7 @@ use Rattle.text_view.proofs.Shaped.{IsFit, IsShapely, blank_shapely, fit_all, fi
 use Rattle.text_view.proofs.Steady.{stays}
 
 -- a message of so many levels at most below it, by what it holds and as one more level sees it
-abbrev Both : Bool → ℕ → DynamicMessage → Type 0
+abbrev pub Both : Bool → ℕ → DynamicMessage → Type 0
 Both e l m = HasShape e l m × IsShapely (HasShape e l) m.descriptor.pool.now m.descriptor.index (content_of m)
 
 first_fit : (e : Bool) (l : ℕ) (k : Kind) (v : held.Value) → IsFit (Both e l) k v → IsFit (HasShape e l) k v
@@ -70,7 +70,7 @@ first_fits : (e : Bool) (l : ℕ) (k : Kind) (vs : List held.Value) → AllByRec
 first_fits e l k [] h = tt
 first_fits e l k (v ∷ vs) h = (first_fit e l k v h.0, first_fits e l k vs h.1)
 
-ascends : (inner : DynamicMessage → Type 0) (pool : PoolType) (i : ℕ) (m : DynamicMessage) → IsShapely inner pool i (content_of m) → Ascends m
+pub ascends : (inner : DynamicMessage → Type 0) (pool : PoolType) (i : ℕ) (m : DynamicMessage) → IsShapely inner pool i (content_of m) → Ascends m
 ascends inner pool i m h = (h.in_fields.ascending, h.in_extensions.ascending)
 
 -- a message of some level in which nothing is set
@@ -89,7 +89,7 @@ abbrev pub Keeps : (DynamicMessage → Type 0) → PoolType → ℕ → DynamicM
 Keeps inner pool i old new = IsShapely inner pool i (content_of new) × (IsExclusive old → IsExclusive new)
 
 -- a string or bytes that are put under a number
-number_shape : (inner : DynamicMessage → Type 0) (old new : DynamicMessage) (sound : IsSound old.descriptor.pool.now) (n : ℕ) (x : Single) (kind : KindType) → IsWhole kind → (IsMessageType kind → ⊥) → SetsNumber n x old new
+pub number_shape : (inner : DynamicMessage → Type 0) (old new : DynamicMessage) (sound : IsSound old.descriptor.pool.now) (n : ℕ) (x : Single) (kind : KindType) → IsWhole kind → (IsMessageType kind → ⊥) → SetsNumber n x old new
     → IsLone old.descriptor.pool.now old.descriptor.index kind (numbered_field old.descriptor.pool.now old.descriptor.index n)
     → IsShapely inner old.descriptor.pool.now old.descriptor.index (content_of old) → Keeps inner old.descriptor.pool.now old.descriptor.index old new
 number_shape inner old new sound n x kind whole no_message sets lone h =
@@ -111,7 +111,7 @@ number_shape inner old new sound n x kind whole no_message sets lone h =
     )
 
 -- the values of the entries that are put into a map
-entry_values : (pool : PoolType) (c : MessageDescriptor) → c.pool.now ≡ pool → (f : FieldType) → f.kind ≡ types.message c.index → IsSound pool → holds_map pool f ≡ true → holds_floats pool f ≡ false → (e : Bool) (l : ℕ) (vs : List held.Value)
+pub entry_values : (pool : PoolType) (c : MessageDescriptor) → c.pool.now ≡ pool → (f : FieldType) → f.kind ≡ types.message c.index → IsSound pool → holds_map pool f ≡ true → holds_floats pool f ≡ false → (e : Bool) (l : ℕ) (vs : List held.Value)
     → AllByRecursion (IsFit (Both e l) (publics.Message c)) vs → (before after : List (MapKey × held.Value)) → AllValues (HasShape e l) pool f.kind before → PutsAll before after vs → AllValues (HasShape e l) pool f.kind after
 entry_values pool c at f kind sound is_map whole e l vs all = subst (λ (p : PoolType). IsSound p → holds_map p f ≡ true → holds_floats p f ≡ false
     → (before after : List (MapKey × held.Value)) → AllValues (HasShape e l) p f.kind before → PutsAll before after vs → AllValues (HasShape e l) p f.kind after) at (base vs all) sound is_map whole where
@@ -138,7 +138,7 @@ module _ (old next : DynamicMessage) (same : next.descriptor ≡ old.descriptor)
   After = Keeps (HasShape e l) pool d.index old next
 
   -- what a target holds before
-  stood : (t : Target) → OwnsTarget d t → (v : held.Value) → held_by old t ≡ Some v → FitsShaped (HasShape e l) pool (target_type t) v
+  pub stood : (t : Target) → OwnsTarget d t → (v : held.Value) → held_by old t ≡ Some v → FitsShaped (HasShape e l) pool (target_type t) v
   stood (targets.Field f) owns v at = shape.field (field_type f).number (field_type f) (owned d f owns) v at
   stood (targets.Extension x) owns v at =
       shape.extension (extension_type x).number (extension_type x) (no_field_there d sound.apart x owns) (extension_owned d x owns) v at
@@ -228,7 +228,7 @@ pub fills_type : (fs : Fields) (old new : DynamicMessage) → Fills fs old new �
 fills_type no_fields old new e = ap (λ (m : DynamicMessage). m.descriptor) e
 fills_type (more_fields name g s fs) old new h = fills_type fs h.0 new h.3 ∙ h.1
 
-max_left : (a b l : ℕ) → max a b ≤ l → a ≤ l
+pub max_left : (a b l : ℕ) → max a b ≤ l → a ≤ l
 max_left a b l le = omega (arith, le)
 
 max_right : (a b l : ℕ) → max a b ≤ l → b ≤ l
@@ -278,7 +278,7 @@ module _ (e : Bool) (q : PoolType) (sound : IsSound q) where
         let more = fields_shape fs l (max_right (given_braces g) (open_braces fs) l le) next new (ap (λ (c : MessageDescriptor). c.pool.now) same ∙ at) its rest in
         (subst (λ (c : MessageDescriptor). IsShapely (HasShape e l) q c.index (content_of new)) same more.0, λ h. more.1 (one.1 h))
 
-    given_shape : (g : Given) (l : ℕ) → given_braces g ≤ l → GivenShaped e q l g
+    pub given_shape : (g : Given) (l : ℕ) → given_braces g ≤ l → GivenShaped e q l g
     given_shape (one_scalar s) l le = record {
       one = λ k v pooled h. scalar_shape l k s v h;
       all = λ k vs pooled h. alone_shape l k h.0 (scalar_shape l k s h.0 h.1) vs h.2;
@@ -311,7 +311,7 @@ made_written q sound fs d m at makes =
     ∙ ap (λ (c : MessageDescriptor). bytes_of (types_of q) (name_at q c.index) (view m)) made.0
 
 -- a message in shape that a text fills
-next_level : (e : Bool) (l : ℕ) (old new : DynamicMessage) → HasShape e (suc l) old → IsShaped (HasShape e l) new.descriptor (content_of new) → (IsExclusive old → IsExclusive new) → HasShape e (suc l) new
+pub next_level : (e : Bool) (l : ℕ) (old new : DynamicMessage) → HasShape e (suc l) old → IsShaped (HasShape e l) new.descriptor (content_of new) → (IsExclusive old → IsExclusive new) → HasShape e (suc l) new
 next_level true l old new before shape keeps = (shape, keeps before.1)
 next_level false l old new before shape keeps = shape
 

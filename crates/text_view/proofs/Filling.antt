@@ -96,7 +96,7 @@ module _ (decoded : Name → Text → Option Message) (pool : PoolType) (sound :
           more.3,
         )
 
-    given_known : (g : Given) → GivenKnown decoded pool g
+    pub given_known : (g : Given) → GivenKnown decoded pool g
     given_known (one_scalar s) = record {
       one = λ k a wants x h. scalar_known k a wants s x h;
       all = λ k a wants vs h. alone_known (scalar_content a s) k h.0 (scalar_known k a wants s h.0 h.1) vs h.2;
@@ -203,7 +203,7 @@ pub unfilled : (decoded : Name → Text → Option Message) (old : DynamicMessag
 unfilled decoded old sound exclusive kinds fs h =
     fields_unfit decoded old.descriptor.pool.now sound fs old refl exclusive kinds h
 
-abbrev no_bytes : Name → Text → Option Message
+abbrev pub no_bytes : Name → Text → Option Message
 no_bytes t bytes = None
 
 pub apart : (old new : DynamicMessage) → IsSound old.descriptor.pool.now → IsExclusive old → HoldsKinds old → (fs : Fields) → Fills fs old new → Unfit fs old → ⊥

@@ -34,3 +34,6 @@ pub mod EntryTypes
 pub mod HaveNames
 pub mod SoundTypes
 pub mod Stopped
+pub mod Tested
+pub mod Braces
+pub mod Halted

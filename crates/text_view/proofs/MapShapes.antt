@@ -122,7 +122,7 @@ told_values inner pool t g there [] h = tt
 told_values inner pool t g there (e ∷ es) h = ((λ k is. subst (λ k. FitsOne inner pool k e.1) (ap (λ o. unwrap_or o g) (sym there ∙ is)) h.0), told_values inner pool t g there es h.1)
 
 module _ (inner : DynamicMessage → Type 0) (pool : PoolType) (f : FieldType) (is_map : holds_map pool f ≡ true) where
-  map_before : (o : Option Value) → ((v : Value) → o ≡ Some v → FitsShaped inner pool f v) → (es : List (MapKey × Value)) × (entries_held o ≡ Some es) × AllValues inner pool f.kind es
+  pub map_before : (o : Option Value) → ((v : Value) → o ≡ Some v → FitsShaped inner pool f v) → (es : List (MapKey × Value)) × (entries_held o ≡ Some es) × AllValues inner pool f.kind es
   map_before None h = ([], refl, tt)
   map_before (Some v) h = subst (λ b. FitsAs inner pool f b (holds_list pool f) v) is_map (h v refl)
 

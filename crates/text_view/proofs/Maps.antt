@@ -99,6 +99,16 @@ module _ (d : MessageDescriptor) (sound : IsSound d.pool.now) (e : StoredEntry) 
       let more = all_put between after vs one.1 entries.1 rest in
       (ap (λ es. put_all es (map (entry_of the_key the_part) (map content_view vs))) one.0 ∙ more.0, more.1)
 
+-- so keys of the kind of a map's keys stay so
+pub keys_put : (pool : PoolType) (f : FieldType) (d : MessageDescriptor) → d.pool.now ≡ pool → f.kind ≡ types.message d.index → (sound : IsSound d.pool.now) (e : StoredEntry) (is : (type_at d.pool.now d.index).entry ≡ Some e)
+    → is_float (values d sound e is).kind ≡ false → (vs : List Value) → AllByRecursion (IsMessageOf d) vs → (before after : List (MapKey × Value)) → PutsAll before after vs
+    → HaveKeys (scalar_of (entry_part pool f 1).kind) before → HaveKeys (scalar_of (entry_part pool f 1).kind) after
+keys_put pool f d at kind sound e is whole vs entries before after puts formed =
+    let key_there : entry_part pool f 1 ≡ type_of_field d.pool.now d.index e.key =
+    part_is pool f 1 (type_of_field d.pool.now d.index e.key) (ap (λ k. entry_field pool k 1) kind ∙ ap (λ p. entry_field p (types.message d.index) 1) (sym at) ∙ key_numbered d sound e is) in
+    let all = all_put d sound e is whole before after vs (subst (λ (g : FieldType). HaveKeys (scalar_of g.kind) before) key_there formed) entries puts in
+    subst (λ (g : FieldType). HaveKeys (scalar_of g.kind) after) (sym key_there) all.1
+
 -- what is put into a map
 abbrev pub MapAdded : DynamicMessage → DynamicMessage → Target → List Value → Type 0
 MapAdded old new t vs =

@@ -54,7 +54,7 @@ any_stays url old new apart (any, inr (between, typed, first, left)) exclusive =
     (first.6 (lone_owns old.descriptor apart 1 types.string first.0 first.2 first.3 any.1 string_whole) exclusive)
 
 -- what stands under a name is begun
-begun_stays : (name : FieldName) (g : Given) (old new : DynamicMessage) → AreApart old.descriptor.pool.now → Begins name g old new → IsExclusive old → IsExclusive new
+pub begun_stays : (name : FieldName) (g : Given) (old new : DynamicMessage) → AreApart old.descriptor.pool.now → Begins name g old new → IsExclusive old → IsExclusive new
 begun_stays (plain w) g old new apart (t, named, begun) =
     target_stays t (AreGiven g) old new (named_target old.descriptor apart w t (inl named)) begun
 begun_stays (extension n) g old new apart (t, named, begun) =

@@ -19,6 +19,8 @@ ghost use Rattle.reflect_message.specs.Oneofs.{IsExclusive};
 ghost use Rattle.reflect_pool.specs.FindsNames.{FindsMessage};
 ghost use Rattle.reflect_pool.specs.Shapes.{holds_list, holds_map};
 ghost use Rattle.reflect_numbered.specs.Called.{HasName, OwnsMeant};
+ghost use Rattle.reflect_numbered.specs.Fits.{suits_type};
+ghost use Rattle.reflect_numbered.specs.declared.validity.Strictness.{Strictness};
 ghost use Rattle.reflect_format.specs.Filled.{Fills, HasRival, IsScalar, Makes, PutsOne};
 ghost use Rattle.reflect_format.specs.Kinds.{scalar_given};
 ghost use Rattle.reflect_format.specs.Named.{NamesExtension, NamesField, NoExtensionNamed, NoFieldNamed};
@@ -212,6 +214,12 @@ pub fn nothing_is_seen_where_nothing_is_set()
         → (view m ≡ nothing) × IsExclusive m × HoldsKinds m }
 {}
 
+/// A message that suits its type, as `is_typed` tells, holds values of the kinds of its fields, as
+/// the laws of texts ask of the message that a text fills. So does one that `is_encodable` accepts.
+pub fn messages_that_are_typed_hold_their_kinds()
+    ensures { (how : Strictness) (m : DynamicMessage) → suits_type how m ≡ true → HoldsKinds m }
+{}
+
 /// A value that is put where neither its target nor another member of the oneof is set is set, in
 /// what is seen of the message.
 pub fn what_is_put_alone_is_set()
@@ -338,6 +346,20 @@ pub fn filled_messages_stay_in_shape()
     ensures { (exclusive : Bool) (old new : DynamicMessage) → IsSound old.descriptor.pool.now
         → (fs : Fields) (levels : ℕ) → open_braces fs ≤ levels
         → HasShape exclusive (suc levels) old → Fills fs old new
+        → HasShape exclusive (suc levels) new }
+{}
+
+/// And a message of which a text was refused, whatever it was refused for, holds values of the
+/// kinds of its fields, and stays in shape of as many levels as it was, if these are as many as
+/// texts may have: so it may be encoded, merged into, and filled by the next text, as before.
+pub fn refused_messages_stay_in_shape()
+    ensures kinds { (old new : DynamicMessage) → IsSound old.descriptor.pool.now
+        → new.descriptor ≡ old.descriptor → IsExclusive old → HoldsKinds old
+        → (ls : List Lexeme) (kind : ParseErrorKind) → Stops ls kind old new → HoldsKinds new }
+    ensures shape { (exclusive : Bool) (old new : DynamicMessage)
+        → IsSound old.descriptor.pool.now → new.descriptor ≡ old.descriptor
+        → (levels : ℕ) → 100 ≤ levels → HasShape exclusive (suc levels) old
+        → (ls : List Lexeme) (kind : ParseErrorKind) → Stops ls kind old new
         → HasShape exclusive (suc levels) new }
 {}
 

@@ -1,13 +1,18 @@
+mod Decoded
 mod Deep
 mod Deepening
-mod Fitting
+pub mod Fitting
 mod Kept
+mod Leaving
+mod LeftValues
 mod Meaning
-mod Opened
+pub mod Opened
+mod Passing
+mod Setting
 mod Staying
 mod Stemming
 mod Suiting
-mod Testing
+pub mod Testing
 mod Told
 mod Typed
-mod Valid
+pub mod Valid

@@ -1,18 +1,22 @@
 -- What a value is, and which fields it suits by that, one level at a time.
-use Rattle.std.proofs.Common.{◌≡◌, ℕ, Bool, List, map, Some, refl, sym, ap, subst, string_bytes}
+use Rattle.std.proofs.Common.{◌≡◌, ℕ, Bool, List, [], map, Some, unwrap_or, refl, sym, ap, ◌∙◌, subst, string_bytes}
 use Rattle.reflect_pool.specs.declared.message.MessageDescriptor.{MessageDescriptor}
 use Rattle.reflect_tables.specs.Types.{KindType, PoolType}
 use Rattle.reflect_scalar.specs.Singles as held
 use Rattle.reflect_scalar.specs.declared.map_key.MapKey.{MapKey}
+use Rattle.reflect_message.specs.Lists.{list_items}
+use Rattle.reflect_message.specs.Maps.{map_entries}
+use Rattle.reflect_message.specs.Messages.{message_in}
 use Rattle.reflect_message.specs.Names as blocks
 use Rattle.reflect_message.specs.Names.{DynamicMessage, Parts, Value}
+use Rattle.reflect_message.specs.Singles as singles
 use Rattle.reflect_message.specs.declared.parts.HeldOf.TheFolds.{map-ValueOf, fold-HeldOf, fold-ValueOf, fold-MessageOf, fold-PartsOf, fold_out-ValueOf, fold_out-MessageOf}
 use Rattle.reflect_message.specs.declared.parts.HeldOf.TheOpen.{ValueOf-F}
 use Rattle.reflect_message.specs.declared.parts.HeldOf.TheViews.{out-ValueOf}
 use Rattle.reflect_message.proofs.Alike.{Open, entries_in, items_in, message_of}
 use Rattle.reflect_numbered.specs.Fits.{Fit, fit_of, held_step, list_fit, map_fit, message_fit, message_fits, message_step, parts_step, single_fit, value_step}
 use Rattle.reflect_numbered.specs.declared.validity.Strictness.{Strictness}
-use Rattle.message_view.proofs.Seen.{single_in}
+use Rattle.message_view.proofs.Seen.{IsSeenAs, single_in}
 
 abbrev pub Placed : Type 0
 Placed = Strictness → PoolType → ℕ → Bool
@@ -67,3 +71,28 @@ step_sorted (ValueOf-F.Map es) = a_map es.entries refl refl
 
 pub sorted : (v : Value) → Sorted (out-ValueOf MessageDescriptor v) (fit_of v)
 sorted v = subst (Sorted (out-ValueOf MessageDescriptor v)) (sym (opened v)) (step_sorted (out-ValueOf MessageDescriptor v))
+
+-- which fields a value of each sort suits
+pub single_told : (v : Value) (w : held.Single) → singles.single v ≡ Some w → fit_of v ≡ single_fit w
+single_told v w e = opened v ∙ subst (IsSeenAs single_fit (stepped (out-ValueOf MessageDescriptor v))) e (by (out-ValueOf MessageDescriptor v)) where
+  by : (o : Open) → IsSeenAs single_fit (stepped o) (single_in o)
+  by (ValueOf-F.Message m) = refl
+  by o = refl
+
+pub message_told : (v : Value) (m : DynamicMessage) → message_in v ≡ Some m → fit_of v ≡ message_fit (kinds_of m)
+message_told v m e = opened v ∙ by (out-ValueOf MessageDescriptor v) e where
+  by : (o : Open) → message_of o ≡ Some m → stepped o ≡ message_fit (kinds_of m)
+  by (ValueOf-F.Message n) e = ap message_fit (folded n) ∙ ap (λ o. message_fit (kinds_of (unwrap_or o n))) e
+  by o e = absurd (cc e)
+
+pub list_told : (v : Value) (vs : List Value) → list_items v ≡ Some vs → fit_of v ≡ list_fit (map fit_of vs)
+list_told v vs e = opened v ∙ by (out-ValueOf MessageDescriptor v) e where
+  by : (o : Open) → items_in o ≡ Some vs → stepped o ≡ list_fit (map fit_of vs)
+  by (ValueOf-F.List ws) e = ap (λ o. list_fit (map fit_of (unwrap_or o []))) e
+  by o e = absurd (cc e)
+
+pub map_told : (v : Value) (es : List (MapKey × Value)) → map_entries v ≡ Some es → fit_of v ≡ map_fit (fits_in es)
+map_told v es e = opened v ∙ by (out-ValueOf MessageDescriptor v) e where
+  by : (o : Open) → entries_in o ≡ Some es → stepped o ≡ map_fit (fits_in es)
+  by (ValueOf-F.Map fs) e = ap (λ o. map_fit (fits_in (unwrap_or o []))) e
+  by o e = absurd (cc e)

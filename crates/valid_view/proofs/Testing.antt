@@ -42,7 +42,7 @@ module _ (how : Strictness) (pool : PoolType) (i : ℕ) where
   Told fields extensions = list_all (field_fits how pool i) (fits_of fields) && list_all (extension_fits how pool i) (fits_of extensions)
 
   -- one level of what a message holds
-  held_told : (h : blocks.Held) → held_fits h how pool i ≡ Told (fields_in h) (extensions_in h)
+  pub held_told : (h : blocks.Held) → held_fits h how pool i ≡ Told (fields_in h) (extensions_in h)
   held_told h = ap (λ s. s how pool i) (fold_out-HeldOf MessageDescriptor Placed Fit Kinded Placed held_step value_step message_step parts_step h) ∙ by (out-HeldOf MessageDescriptor h) where
     by : (o : HeldOf-F MessageDescriptor blocks.Held Value DynamicMessage Parts)
         → held_step (map-HeldOf MessageDescriptor blocks.Held Value DynamicMessage Parts Placed Fit Kinded Placed
@@ -59,17 +59,18 @@ module _ (how : Strictness) (m : DynamicMessage) (typed : suits_type how m ≡ t
   abbrev d : MessageDescriptor
   d = m.descriptor
 
-  both : (list_all (field_fits how d.pool.now d.index) (fits_of (fields_of m)) ≡ true) × (list_all (extension_fits how d.pool.now d.index) (fits_of (extensions_of m)) ≡ true)
-  both =
+  -- its fields do, and its extensions
+  pub halves : (list_all (field_fits how d.pool.now d.index) (fits_of (fields_of m)) ≡ true) × (list_all (extension_fits how d.pool.now d.index) (fits_of (extensions_of m)) ≡ true)
+  halves =
       let fields = list_all (field_fits how d.pool.now d.index) (fits_of (fields_of m)) in
       let extensions = list_all (extension_fits how d.pool.now d.index) (fits_of (extensions_of m)) in
       and_parts fields extensions (sym (held_told how d.pool.now d.index m.held) ∙ typed)
 
-  under_field : (n : ℕ) (v : Value) → value_at (fields_of m) n ≡ Some v → under_fits how d.pool.now (known_field d.pool.now d.index n) (fit_of v) ≡ true
-  under_field n v at = at_number (field_fits how d.pool.now d.index) (fields_of m) n v both.0 at
+  pub under_field : (n : ℕ) (v : Value) → value_at (fields_of m) n ≡ Some v → under_fits how d.pool.now (known_field d.pool.now d.index n) (fit_of v) ≡ true
+  under_field n v at = at_number (field_fits how d.pool.now d.index) (fields_of m) n v halves.0 at
 
-  under_extension : (n : ℕ) (v : Value) → value_at (extensions_of m) n ≡ Some v → under_fits how d.pool.now (known_extension d.pool.now d.index n) (fit_of v) ≡ true
-  under_extension n v at = at_number (extension_fits how d.pool.now d.index) (extensions_of m) n v both.1 at
+  pub under_extension : (n : ℕ) (v : Value) → value_at (extensions_of m) n ≡ Some v → under_fits how d.pool.now (known_extension d.pool.now d.index n) (fit_of v) ≡ true
+  under_extension n v at = at_number (extension_fits how d.pool.now d.index) (extensions_of m) n v halves.1 at
 
   -- what a field holds suits it
   pub field_whole : (f : FieldDescriptor) → Owns d f → (v : Value) → value_at (fields_of m) (field_type f).number ≡ Some v → (fit_of v).whole how d.pool.now (field_type f) ≡ true

@@ -1,6 +1,7 @@
 //! Laws of calls that leave messages tidy, whatever they put, and what these hold as the types of
 //! the code have it. That of each oneof one member at most holds anything the calls themselves say.
-ghost use Rattle.std.specs.Prelude.{◌≡◌, ◌≤◌, None, Some, suc, ℕ};
+ghost use Rattle.std.specs.Prelude.{◌≡◌, ◌≤◌, List, None, Some, suc, ℕ};
+ghost use Rattle.reflect_decode.specs.Spelled.{IsSpelled};
 ghost use Rattle.reflect_entries.specs.Entries.{IsAscending};
 ghost use Rattle.reflect_message.specs.Contents.{content_of, nothing};
 ghost use Rattle.reflect_message.specs.Declares.{Owns, OwnsExtension};
@@ -10,6 +11,7 @@ ghost use Rattle.reflect_message.specs.Oneofs.{IsExclusive, SetsField};
 ghost use Rattle.reflect_pool.specs.FieldsLeft.{field_type};
 ghost use Rattle.reflect_pool.specs.declared.extension.ExtensionDescriptor.{ExtensionDescriptor};
 ghost use Rattle.reflect_pool.specs.declared.field.FieldDescriptor.{FieldDescriptor};
+ghost use Rattle.reflect_pool.specs.declared.message.MessageDescriptor.{MessageDescriptor};
 ghost use Rattle.reflect_scalar.specs.FieldTypes.{extension_type};
 ghost use Rattle.reflect_tables.specs.Types.{PoolType};
 ghost use Rattle.message_view.specs.Sound.{IsSound};
@@ -23,6 +25,12 @@ pub fn empty_messages_are_tidy()
         → m.descriptor.pool.now ≡ pool → content_of m ≡ nothing → Tidy pool (suc levels) m }
     ensures solid { (levels : ℕ) (m : DynamicMessage) → content_of m ≡ nothing
         → Solid (suc levels) m }
+{}
+
+/// A message that was decoded is tidy, with 100 levels of messages below it at most.
+pub fn decoded_messages_are_tidy()
+    ensures { (d : MessageDescriptor) → IsSound d.pool.now → (bytes : List ℕ) (m : DynamicMessage)
+        → m.descriptor ≡ d → IsExclusive m → IsSpelled d bytes m → Tidy d.pool.now 101 m }
 {}
 
 /// What is so with some levels below is so with more.
