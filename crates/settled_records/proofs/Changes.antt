@@ -1,5 +1,7 @@
 -- What an edit does to the content of its file; edits of one file, one after another.
-use Rattle.std.proofs.Common.{◌≡◌, ℕ, zero, suc, List, [], ◌∷◌, map, fold, Some, slice_get, ap, refl, ◌∙◌}
+use Rattle.std.proofs.Common.{◌≡◌, ◌++◌, ℕ, zero, suc, List, [], ◌∷◌, map, fold, Some, slice_get, ap, refl, ◌∙◌}
+use Rattle.std.proofs.lemmas.List.{map-append}
+use Rattle.std.proofs.lemmas.List.Sums.{fold-append}
 use Rattle.std.specs.List.{AllByRecursion}
 use Rattle.descriptor_records.specs.Content.{FileContent, options_view}
 use Rattle.reflect_growth.specs.Put.{edited, file_put, path_put, with_at}
@@ -22,6 +24,12 @@ index_of (edits.Location file place path) = file
 -- a content behind changes
 abbrev pub changed : FileContent → List Change → FileContent
 changed = fold (λ (f : FileContent) (c : Change). c f)
+
+-- behind edits of which some come first
+pub changed_on : (f : FileContent) (es first then : List Edit) → es ≡ first ++ then → changed f (map change_of es) ≡ changed (changed f (map change_of first)) (map change_of then)
+changed_on f es first then is =
+    ap (λ ds. changed f (map change_of ds)) is ∙ ap (changed f) (map-append change_of first then)
+    ∙ fold-append (λ (g : FileContent) (c : Change). c g) f (map change_of first) (map change_of then)
 
 -- ---- a list in which the entry at a place is put in another form: that entry, and each other
 put_there : {A : Type 0} (k : ℕ) (f : A → A) (xs : List A) (x : A) → slice_get xs k ≡ Some x → slice_get (with_at k f xs) k ≡ Some (f x)

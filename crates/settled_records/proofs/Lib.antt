@@ -8,6 +8,7 @@ pub mod PlainOptions
 pub mod Put
 pub mod PutOptions
 pub mod Settled
+pub mod PathScopes
 pub mod Standing
 pub mod Themselves
 pub mod Fronts
@@ -24,6 +25,8 @@ pub mod Walk
 pub mod Changes
 pub mod Moved
 pub mod Placed
+pub mod PutElsewhere
+pub mod Mixed
 pub mod Pools
 pub mod Unlocated
 pub mod Typed

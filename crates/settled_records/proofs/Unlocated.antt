@@ -1,8 +1,6 @@
 -- Where the options of a file settle alike in two pools, and it differs there in lines, columns and comments alone, so do its
 -- records afterwards.
-use Rattle.std.proofs.Common.{◌≡◌, ◌≤◌, ◌<◌, ◌+◌, ◌++◌, ◌∙◌, ℕ, ℤ, List, [], ◌∷◌, map, fold, length, Option, Some, None, MatchOption, slice_get, inl, inr, ap, refl, sym, subst}
-use Rattle.std.proofs.lemmas.List.{map-append}
-use Rattle.std.proofs.lemmas.List.Sums.{fold-append}
+use Rattle.std.proofs.Common.{◌≡◌, ◌≤◌, ◌<◌, ◌+◌, ◌++◌, ◌∙◌, ℕ, ℤ, List, [], ◌∷◌, map, length, Option, Some, None, MatchOption, slice_get, inl, inr, ap, refl, sym, subst}
 use Rattle.std.specs.List.{AllByRecursion}
 use Rattle.std.specs.Option.{option_map}
 use Rattle.descriptor_records.specs.Content.{FileContent, OptionsContent, file_view, options_view, unlocated}
@@ -19,8 +17,9 @@ use Rattle.reflect_names.specs.Spans.{locations}
 use Rattle.reflect_options.specs.Entities.{Entity, file_entities}
 use Rattle.reflect_options.specs.Settling.{IsScopeOf, Move, SettlesAll, SettlesEntity, SettlesFile, SettlesIn, SettlesPool, target_in}
 use Rattle.reflect_tables.specs.Types.{PoolType}
-use Rattle.settled_records.proofs.Changes.{Change, change_of, changed}
-use Rattle.settled_records.proofs.Pools.{entities_alike, in_pool}
+use Rattle.settled_records.proofs.Changes.{Change, change_of, changed, changed_on}
+use Rattle.settled_records.proofs.Mixed.{all_left, entities_alike}
+use Rattle.settled_records.proofs.Pools.{in_pool}
 use Rattle.settled_records.proofs.Walk.{same_entities}
 use Rattle.settled_records.specs.Alike.{AllSettleAlike}
 
@@ -85,8 +84,7 @@ comes_to : (pool : PoolType) (i : ℕ) (f : FileDescriptorProto) (es options mov
     → EditsLocations (target_in ms) i 0 (locations f) moved → es ≡ options ++ moved → (x : FileContent)
     → unlocated (changed x (map change_of es)) ≡ changed (unlocated x) (map change_of options)
 comes_to pool i f es options moved ms settles locates is x =
-    ap (λ (cs : List Change). unlocated (changed x cs)) (ap (map change_of) is ∙ map-append change_of options moved)
-    ∙ ap unlocated (fold-append (λ (y : FileContent) (c : Change). c y) x (map change_of options) (map change_of moved))
+    ap unlocated (changed_on x es options moved is)
     ∙ left_by_locations moved (all_locations (target_in ms) i 0 (locations f) moved locates) (changed x (map change_of options))
     ∙ by_options options (all_options pool (file_entities i f) options ms settles) x
 
@@ -105,9 +103,11 @@ settle_unlocated p q new other first second i j f g settles settled far near bey
         → slice_get (map file_view other.records) j ≡ Some (changed (file_view g) (map change_of ds))
         → option_map unlocated (slice_get (map file_view new.records) i) ≡ option_map unlocated (slice_get (map file_view other.records) j)
     by es ds (options, moved, ms, set, locates, is) (others, went, ns, put, located, are) here its =
-        let changes : map change_of options ≡ map change_of others =
-        (entities_alike p q (file_entities i f) (file_entities j g) options others ms ns (same_entities i j f g same) agree set put).0 in
-        let content : changed (unlocated (file_view f)) (map change_of options) ≡ changed (unlocated (file_view g)) (map change_of others) = λ k. changed (same k) (changes k) in
+        let bare : FileContent = unlocated (file_view f) in
+        let left = all_left p q i f bare (λ path o stands. sym (put_unlocated path o (file_view f)) ∙ ap unlocated stands) in
+        let changes : changed bare (map change_of options) ≡ changed bare (map change_of others) =
+        (entities_alike p q (file_entities i f) (file_entities j g) bare options others ms ns (same_entities i j f g same) agree left set put).0 in
+        let content : changed bare (map change_of options) ≡ changed (unlocated (file_view g)) (map change_of others) = changes ∙ ap (λ (y : FileContent). changed y (map change_of others)) same in
         ap (option_map unlocated) here
         ∙ ap Some (comes_to p i f es options moved ms set locates is (file_view f) ∙ content ∙ sym (comes_to q j g ds others went ns put located are (file_view g)))
         ∙ sym (ap (option_map unlocated) its)

@@ -1,7 +1,7 @@
 -- Entities of one file in two pools, whose options settle alike.
-use Rattle.std.specs.Prelude.{◌≡◌, ℕ, ℤ, List, None, Some, option_map}
+use Rattle.std.specs.Prelude.{◌≡◌, ℕ, ℤ, List, Some, option_map}
 use Rattle.std.specs.List.{AllZip}
-use Rattle.descriptor_records.specs.Content.{FileContent, options_view}
+use Rattle.descriptor_records.specs.Content.{options_view}
 use Rattle.descriptor_records.specs.declared.file.FileDescriptorProto.{FileDescriptorProto}
 use Rattle.descriptor_records.specs.declared.options.Options.{Options}
 use Rattle.option_setter.specs.declared.option_setter.NameScope.{NameScope}
@@ -9,6 +9,7 @@ use Rattle.reflect_options.specs.Entities.{Entity, file_entities}
 use Rattle.reflect_options.specs.Settled.{Settles, StayAsTheyAre}
 use Rattle.reflect_options.specs.Settling.{IsScopeOf}
 use Rattle.reflect_tables.specs.Types.{PoolType}
+use Rattle.settled_records.specs.Themselves.{SettlesToItself}
 
 -- the same in its file: what it is, where it stands, from where names are looked up, and its
 -- options
@@ -19,12 +20,14 @@ pub record IsSameEntity (c d : Entity) : Type 0 where
   pub name : c.name ≡ d.name
   pub options : option_map options_view c.options ≡ option_map options_view d.options
 
--- both pools have a type for its options, by which they settle to the same, along the same paths
+-- Where both pools have a type for its options, they settle to the same, along the same paths; where
+-- one of them has none, so that they stay as they are there, they settle to just what they are in
+-- the other, if it has one.
 pub record SettleAlike (p q : PoolType) (c d : Entity) : Type 0 where
   pub here : (o : Options) (s : NameScope) → c.options ≡ Some o → IsScopeOf p c s
-      → StayAsTheyAre c.scope s o → ⊥
+      → StayAsTheyAre c.scope s o → SettlesToItself q d
   pub there : (o : Options) (s : NameScope) → d.options ≡ Some o → IsScopeOf q d s
-      → StayAsTheyAre d.scope s o → ⊥
+      → StayAsTheyAre d.scope s o → SettlesToItself p c
   pub alike : (o x settled other : Options) (s t : NameScope) (paths ways : List (List ℤ))
       → c.options ≡ Some o → d.options ≡ Some x → IsScopeOf p c s → IsScopeOf q d t
       → Settles c.scope s o (options_view settled) paths

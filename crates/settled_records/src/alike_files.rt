@@ -17,7 +17,8 @@ pub fn records_of_one_content_have_the_same_entities()
 {}
 
 /// Where the options of a file settle alike in two pools, its records are the same once they are
-/// settled: options, and the paths of its locations.
+/// settled: options, and the paths of its locations. A pool may have no types for some of them, as
+/// long as these settle to what they are in the other.
 pub fn files_whose_options_settle_alike_settle_alike()
     ensures { (p q new other : PoolType) (first second i j : ℕ) (f g : FileDescriptorProto)
         → SettlesPool p first new → SettlesPool q second other

@@ -21,7 +21,7 @@ use Rattle.message_view.specs.Shaped.{Shaped}
 use Rattle.option_parts.specs.OptionTypes.{CanRead, HasField, ListsMessages}
 use Rattle.option_parts.specs.declared.option_scope.OptionScope.{OptionScope}
 use Rattle.option_setter.specs.declared.option_setter.NameScope.{NameScope}
-use Rattle.plain_records.specs.SaidOptions.{SaysAndIsSettled}
+use Rattle.plain_records.specs.SaidOptions.{IsSettled, SaysAndIsSettled}
 use Rattle.protobuf_model.specs.Bytes.{bytes_of}
 use Rattle.protobuf_model.specs.Values.{Message, absent, nothing}
 use Rattle.protobuf_model.proofs.Bytewise.{one_meaning}
@@ -42,8 +42,10 @@ use Rattle.set_view.proofs.Viewed.{field_unset}
 use Rattle.settled_records.proofs.Fields.{field_known, listed_whole}
 use Rattle.settled_records.proofs.Said.{view_says}
 use Rattle.settled_records.proofs.Stored.{list_unset}
+use Rattle.stored_options.specs.CopiedOptions.{ReadsItsBytes}
 use Rattle.stored_options.specs.StoredOptions.{AreStored}
 use Rattle.stored_options.proofs.Alike.{one_record}
+use Rattle.stored_options.proofs.Copied.{set_reads}
 use Rattle.stored_options.proofs.Scoped.{of_type, option_type, type_sound}
 
 -- a vector has no more elements than a length can say
@@ -134,15 +136,23 @@ module _ (scope : OptionScope) (s : NameScope) (o : Options) (paths : List (List
       whole_bytes is.0 (type_sound scope s is.0.descriptor typed sound) o.encoded.items are (short o.encoded) spelled m
       (of_type scope s is.0.descriptor typed (λ types t. AreFormOf types t m o.encoded.items) formed.0) whole formed.1 lists unset
 
+-- those of which linking reads what their bytes say
+pub settled_as_read : (scope : OptionScope) (s : NameScope) (o settled : Options) (paths : List (List ℤ)) (m : Message) → IsSound s.pool.now
+    → CanRead s.pool.now scope → AreBytes o.encoded.items
+    → AreStored (types_of s.pool.now) scope m o.encoded.items → ReadsItsBytes scope (options_view o) → IsSettled (options_view o) → Settles scope s o (options_view settled) paths
+    → (options_view settled ≡ options_view o) × (paths ≡ [])
+settled_as_read scope s o settled paths m sound can are formed reads none is =
+    let left = no_items o.uninterpreted_option.items none in
+    let bytes : settled.encoded.items ≡ o.encoded.items =
+    ap (λ (c : OptionsContent). c.encoded) is.1.4.0 ∙ same_bytes scope s o paths m sound can are formed left is.1.0 is.1.1 is.1.2 is.1.3 in
+    let says : ReadsItsBytes scope (options_view settled) = set_reads scope (options_view settled) (view_says scope s o (options_view settled) paths sound can is settled refl) in (
+      one_record scope (options_view settled) (options_view o) says reads bytes (ap (λ (c : OptionsContent). c.uninterpreted_option) is.1.4.0 ∙ sym none),
+      no_paths scope s o paths m sound can are formed left is.1.0 is.1.1 is.1.2 is.1.3,
+    )
+
+-- and so those that say it
 pub settled_again : (scope : OptionScope) (s : NameScope) (o settled : Options) (paths : List (List ℤ)) (m : Message) → IsSound s.pool.now
     → CanRead s.pool.now scope → AreBytes o.encoded.items
     → AreStored (types_of s.pool.now) scope m o.encoded.items → SaysAndIsSettled scope (options_view o) → Settles scope s o (options_view settled) paths
     → (options_view settled ≡ options_view o) × (paths ≡ [])
-settled_again scope s o settled paths m sound can are formed says is =
-    let left = no_items o.uninterpreted_option.items says.1 in
-    let bytes : settled.encoded.items ≡ o.encoded.items =
-    ap (λ (c : OptionsContent). c.encoded) is.1.4.0 ∙ same_bytes scope s o paths m sound can are formed left is.1.0 is.1.1 is.1.2 is.1.3 in (
-      one_record scope (options_view settled) (options_view o) (view_says scope s o (options_view settled) paths sound can is settled refl) says.0 bytes
-          (ap (λ (c : OptionsContent). c.uninterpreted_option) is.1.4.0 ∙ sym says.1),
-      no_paths scope s o paths m sound can are formed left is.1.0 is.1.1 is.1.2 is.1.3,
-    )
+settled_again scope s o settled paths m sound can are formed says is = settled_as_read scope s o settled paths m sound can are formed (set_reads scope (options_view o) says.0) says.1 is

@@ -1,34 +1,31 @@
 -- Options that a source gives settle to the same, along the same paths, in whatever batches the files
 -- come: what it wrote, and those of a map's entries.
-use Rattle.std.proofs.Common.{◌≡◌, ◌∙◌, inl, inr, ℕ, ℤ, List, [], ◌∷◌, ◌++◌, map, ap, sym, subst, arith}
+use Rattle.std.proofs.Common.{◌≡◌, ◌∙◌, inl, inr, ℕ, ℤ, List, ◌++◌, map, ap, sym, subst}
 use Rattle.descriptor_records.specs.Content.{FileContent, OptionContent, OptionsContent, Text, option_view, options_view}
 use Rattle.descriptor_records.specs.declared.options.Options.{Options}
 use Rattle.message_view.specs.Sound.{IsSound}
 use Rattle.stored_options.specs.SetOptions.{LeadAlike, Leads}
 use Rattle.stored_options.proofs.OneMessage.{all_one}
 use Rattle.stored_options.specs.Standing.{HaveOneEnd, StandsIn}
-use Rattle.option_parts.specs.OptionTypes.{CanRead, ReadsOptions, type_name}
+use Rattle.option_parts.specs.OptionTypes.{CanRead, type_name}
 use Rattle.option_parts.specs.declared.option_scope.OptionScope.{OptionScope}
-use Rattle.option_parts.specs.declared.option_scope.OptionScope.TheVariants as scopes
 use Rattle.option_setter.specs.declared.option_setter.NameScope.{NameScope}
 use Rattle.stored_options.specs.NamedNumbers.{numbers_named}
+use Rattle.plain_records.specs.SaidOptions.{IsSettled}
 use Rattle.plain_records.specs.SourceOptions.{AreAsRead, AreGiven, HaveSmallNumbers, as_read, of_entries}
 use Rattle.protobuf_model.specs.Bytes.{bytes_of}
 use Rattle.protobuf_model.specs.Types.{Name}
 use Rattle.protobuf_model.specs.Values.{nothing}
 use Rattle.reflect_options.specs.Settled.{Settles}
 use Rattle.reflect_tables.specs.Types.{PoolType}
-use Rattle.reflect_wire.specs.Written.{AreBytes}
 use Rattle.schema_view.specs.Views.{View, view_of}
 use Rattle.stored_options.proofs.Unlocated.{one_view}
-use Rattle.stored_options.proofs.Again.{no_items, no_paths, same_bytes}
-use Rattle.stored_options.proofs.Later.{of_an_entry}
 use Rattle.stored_options.proofs.Linking.{said_as_before}
-use Rattle.stored_options.proofs.Scoped.{named_type}
 use Rattle.text_model.specs.Schemas.{Schema}
 use Rattle.text_view.specs.SourceNames.{HaveOwnNames}
 use Rattle.texts_view.specs.Named.{schema_in}
 use Rattle.stored_options.proofs.InTheEnd.{SetAndWritten, set_in_the_end, unread}
+use Rattle.stored_options.proofs.Unwritten.{unwritten_again}
 
 -- by one schema options set one message, which its type writes in one way
 one_writing : (w : Schema) (a b : Leads) → LeadAlike a b → (t : Name) (os : List OptionContent) (bytes others : List ℕ) (paths ways : List (List ℤ))
@@ -37,19 +34,6 @@ one_writing w a b alike t os bytes others paths ways (m, written, sets) (n, also
     let r = all_one w a b alike t os nothing m n paths ways sets more in
     let same : bytes_of w.types t m ≡ bytes_of w.types t n = ap (bytes_of w.types t) r.0 in
     (written ∙ same ∙ sym also, r.1)
-
--- those of a map's entries are stored as they are, and have no paths
-entry_kept : (scope : OptionScope) (s : NameScope) (o settled : Options) (paths : List (List ℤ)) → IsSound s.pool.now → CanRead s.pool.now scope → scope ≡ scopes.Message → options_view o ≡ of_entries
-    → Settles scope s o (options_view settled) paths → (settled.encoded.items ≡ 56 ∷ 1 ∷ []) × (paths ≡ [])
-entry_kept scope s o settled paths sound can message given is =
-    let left = no_items o.uninterpreted_option.items (ap (λ (c : OptionsContent). c.uninterpreted_option) given) in
-    let before : o.encoded.items ≡ 56 ∷ 1 ∷ [] = ap (λ (c : OptionsContent). c.encoded) given in
-    let named = named_type scope s is.1.0 is.1.1 in
-    let reads : ReadsOptions s.pool.now scope = (is.1.0.index, named, can is.1.0.index named) in
-    let m = of_an_entry scope s.pool.now sound message reads o.encoded.items before in
-    let are : AreBytes o.encoded.items = subst AreBytes (sym before) (omega arith, (omega arith, tt)) in
-    let same = same_bytes scope s o paths m.0 sound can are m.1 left is.1.0 is.1.1 is.1.2 is.1.3 in
-    (ap (λ (c : OptionsContent). c.encoded) is.1.4.0 ∙ same ∙ before, no_paths scope s o paths m.0 sound can are m.1 left is.1.0 is.1.1 is.1.2 is.1.3)
 
 module _ (scope : OptionScope) (s t : NameScope) (o x settled other : Options) (paths ways : List (List ℤ))
     (sound : IsSound s.pool.now) (and_sound : IsSound t.pool.now) (names : HaveOwnNames s.pool.now) (and_names : HaveOwnNames t.pool.now)
@@ -79,12 +63,14 @@ module _ (scope : OptionScope) (s t : NameScope) (o x settled other : Options) (
       let entry : settled.map_entry ≡ other.map_entry = said_alike.2 in
       (λ i. record { encoded = bytes i; packed = packed i; allow_alias = alias i; map_entry = entry i; uninterpreted_option = left_alike i })
 
-  -- those of a map's entries
-  entries_alike : scope ≡ scopes.Message → options_view o ≡ of_entries → (options_view settled ≡ options_view other) × (paths ≡ ways)
-  entries_alike message entries =
-      let one = entry_kept scope s o settled paths sound can message entries is in
-      let two = entry_kept scope t x other ways and_sound and_can message (same ∙ entries) also in
-      (record_alike (one.0 ∙ sym two.0), one.1 ∙ sym two.1)
+  -- those of a map's entries, in which nothing is left to settle
+  entries_alike : options_view o ≡ of_entries → (options_view settled ≡ options_view other) × (paths ≡ ways)
+  entries_alike entries =
+      let left : IsSettled (options_view o) = ap (λ (c : OptionsContent). c.uninterpreted_option) entries in
+      let also_left : IsSettled (options_view x) = ap (λ (c : OptionsContent). c.uninterpreted_option) same ∙ left in
+      let one = unwritten_again scope s o settled paths sound can given left is in
+      let two = unwritten_again scope t x other ways and_sound and_can and_given also_left also in
+      (one.0 ∙ sym same ∙ sym two.0, one.1 ∙ sym two.1)
 
   -- what the source wrote
   module _ (batches others : List (List FileContent)) (p q : PoolType) (file name : Text) (ends : HaveOneEnd batches others) (here : StandsIn batches p s file name) (there : StandsIn others q t file name)
@@ -114,5 +100,5 @@ given_alike batches others p q s t file name scope o x settled other paths ways 
     let can_t : CanRead t.pool.now scope = subst (λ (r : PoolType). CanRead r scope) (sym there.in_pool) and_can in
     elim given.0 [
       | inl wrote ↦ written_alike scope s t o x settled other paths ways sound_s sound_t names_s names_t can_s can_t given.0 same is also batches others p q file name ends here there alike given.1 wrote
-      | inr entries ↦ entries_alike scope s t o x settled other paths ways sound_s sound_t names_s names_t can_s can_t given.0 same is also entries.0 entries.1
+      | inr entries ↦ entries_alike scope s t o x settled other paths ways sound_s sound_t names_s names_t can_s can_t given.0 same is also entries.1
     ]

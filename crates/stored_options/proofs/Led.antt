@@ -28,7 +28,7 @@ LeadsTo fs s t part n = MatchBool part.is_extension (LeadsOutside fs s part.name
     (NumbersField fs t part.name_part n)
 
 -- what a part names in a message of the type
-abbrev Names : NameScope → MessageDescriptor → NameContent → Target → Type 0
+abbrev pub Names : NameScope → MessageDescriptor → NameContent → Target → Type 0
 Names s d part x = MatchBool part.is_extension (NamesExtension s d part.name_part x)
     (NamesField d part.name_part x)
 

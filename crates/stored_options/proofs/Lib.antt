@@ -1,8 +1,10 @@
 pub mod EntryMessage
 pub mod Scoped
 pub mod Later
+pub mod Copied
 pub mod Alike
 pub mod Again
+pub mod Unwritten
 pub mod StoredTruths
 pub mod Refusals
 pub mod Owning
@@ -13,7 +15,6 @@ pub mod MapShape
 pub mod EachStep
 pub mod ShapeAlong
 pub mod OwnTruth
-pub mod Copied
 pub mod Linking
 pub mod Levels
 pub mod SaidSuits
@@ -26,6 +27,8 @@ pub mod Sources
 pub mod SettingGrows
 pub mod Known
 pub mod OneMessage
+pub mod BracesKept
+pub mod BracesSet
 pub mod Spared
 pub mod Reserved
 pub mod Said
@@ -55,6 +58,7 @@ pub mod Pool
 pub mod OneName
 pub mod Numbers
 pub mod Led
+pub mod OneNumber
 pub mod Leads
 pub mod FurtherBatches
 pub mod InTheEnd

@@ -9,7 +9,7 @@ use Rattle.text_model.specs.Schemas.{Schema}
 use Rattle.text_model.specs.Texts.{IsText}
 use Rattle.text_model.specs.Value.{Wanted, of_scalar, of_message, assign, wanted_of}
 use Rattle.text_model.proofs.Merging.{one_text}
-use Rattle.stored_options.specs.SetOptions.{Gets, LeadAlike, Leads, Says, SetsAll, SetsLast, SetsParts, number, place_in}
+use Rattle.stored_options.specs.SetOptions.{Gets, LeadAlike, Leads, Says, SetsAll, SetsLast, SetsParts, leads_by, number, place_in}
 use Rattle.text_model.specs.Tree.{Fields}
 use Rattle.text_model.specs.Value.{value}
 
@@ -27,6 +27,9 @@ pub gets_one : (type : ℕ → Option Field) (n : ℕ) (f : Field) (l : Label) (
 gets_one type n f one c old new other a b = a.1 ∙ sym b.1
 gets_one type n f (many packed) c old new other a b = same_Some new other (sym a ∙ b)
 gets_one type n f (keyed key) c old new other a b = same_Some new other (sym a ∙ b)
+
+pub one_lead : (lead : Name → NameContent → Option ℕ) → LeadAlike (leads_by lead) (leads_by lead)
+one_lead lead t part n k a b = same_Some n k (sym a ∙ b)
 
 module _ (w : Schema) (a b : Leads) (alike : LeadAlike a b) where
   -- ---- the last part

@@ -3,3 +3,4 @@ pub mod CopiedOptions
 pub mod SetOptions
 pub mod NamedNumbers
 pub mod Standing
+pub mod Braces
