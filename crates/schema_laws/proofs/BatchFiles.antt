@@ -6,7 +6,6 @@ use Rattle.descriptor_records.specs.Content.{FileContent, file_view}
 use Rattle.descriptor_records.specs.declared.file.FileDescriptorProto.{FileDescriptorProto}
 use Rattle.linked_names.specs.SourcePools.{IsSourcePool}
 use Rattle.message_view.specs.Sound.{IsSound}
-use Rattle.option_parts.specs.declared.option_scope.OptionScope.{OptionScope}
 use Rattle.plain_records.specs.PlainRecords.{ArePlainFiles, IsPlainFile}
 use Rattle.plain_records.specs.SourceOptions.{AreGiven}
 use Rattle.reflect_build.specs.Accepted.{FaultlessFiles}
@@ -17,7 +16,6 @@ use Rattle.reflect_index.proofs.Among.{got_map}
 use Rattle.reflect_options.specs.Settling.{SettlesPool}
 use Rattle.reflect_pool.specs.Linked.{empty_pool}
 use Rattle.reflect_tables.specs.Types.{PoolType}
-use Rattle.schema_laws.specs.HeldOptions.{HasType}
 use Rattle.schema_laws.proofs.Held.{new_given}
 use Rattle.schema_laws.proofs.Linked.{linked_names, linked_sound}
 use Rattle.settled_view.specs.BuiltBut.{ChangesOptions}
@@ -33,13 +31,12 @@ use Rattle.schema_laws.proofs.Grown.{empty_is_pool}
 use Rattle.schema_laws.proofs.Lists.{back_get, front_map}
 use Rattle.schema_laws.proofs.Naming.{empty_sources}
 
--- the batches were linked into a pool that has types for all options
+-- the batches were linked into a pool
 pub record AreLinked (batches : List (List FileContent)) (p : PoolType) : Type 0 where
   pub typed : IsTyped batches p
   pub is : IsPool p
   pub sound : IsSound p
   pub names : HaveOwnNames p
-  pub types : (scope : OptionScope) → HasType p scope
 
 -- the pool has a file of these contents at the index, with options as sources give them
 pub record HasFile (p : PoolType) (index : ℕ) (contents : FileContent) : Type 0 where
@@ -75,14 +72,13 @@ pub record CameAbout (batches : List (List FileContent)) (p : PoolType) : Type 0
   pub files : (k : ℕ) (x y : FileContent) → slice_get (map file_view typed.but.linked.records) k ≡ Some x
       → slice_get (map file_view p.records) k ≡ Some y → IsOneOf batches x y
 
--- files of sources that a pool had not yet were linked into it, which then has types for all options, and settled
+-- files of sources that a pool had not yet were linked into it, and settled
 pub record AddsBatch (old new : PoolType) (batch : List FileContent) : Type 0 where
   pub linked : PoolType
   pub typed : List FileDescriptorProto
   pub faultless : FaultlessFiles old typed linked
   pub added : map file_view (new_files faultless.0.indexes typed) ≡ batch
   pub given : ArePlainFiles AreGiven (map file_view typed)
-  pub types : (scope : OptionScope) → HasType linked scope
   pub settles : SettlesPool linked (length old.files) new
   pub changes : ChangesOptions linked new
   pub is : IsPool new
@@ -116,7 +112,6 @@ module _ (earlier : List (List FileContent)) (batch : List FileContent) (old new
         is = pool;
         sound = sound;
         names = linked_names linked new add.changes.settled add.named.names.distinct;
-        types = add.types;
       }
 
   -- ---- its files

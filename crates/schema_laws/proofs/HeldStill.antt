@@ -1,5 +1,5 @@
 -- What options are held as they are still held as when a batch of files is added.
-use Rattle.std.proofs.Common.{◌≡◌, ◌∙◌, List, [], ◌∷◌, map, Option, Some, None, inl, inr, ap, refl, sym, subst}
+use Rattle.std.proofs.Common.{◌≡◌, ◌∙◌, List, ◌∷◌, map, Option, Some, None, inl, inr, ap, refl, sym, subst}
 use Rattle.std.specs.List.{find}
 use Rattle.std.specs.Option.{option_map}
 use Rattle.std.specs.Str.{bytes_eq}
@@ -60,7 +60,7 @@ module _ (batches : List (List FileContent)) (p : PoolType) (is : IsTyped batche
       ∙ ap (λ n. option_map (λ (m : MessageFacts). n) (message_at facts n)) (no_dot scope)
 
   -- what a pool has a type for its records declare one for
-  type_declared : HasType p scope → (m : MessageFacts) × (message_at facts (type_name scope) ≡ Some m)
+  pub type_declared : HasType p scope → (m : MessageFacts) × (message_at facts (type_name scope) ≡ Some m)
   type_declared has = let r = type_called_so p scope has in by (message_at facts (type_name scope)) refl r.0 (sym seen ∙ r.1)
     where
       by : (o : Option MessageFacts) → message_at facts (type_name scope) ≡ o → (t : Name) → option_map (λ (m : MessageFacts). type_name scope) (message_at facts (type_name scope)) ≡ Some t
@@ -69,7 +69,7 @@ module _ (batches : List (List FileContent)) (p : PoolType) (is : IsTyped batche
       by (Some m) some t is = (m, some)
 
   -- and the other way round
-  declared_type : (m : MessageFacts) → message_at facts (type_name scope) ≡ Some m → HasType p scope
+  pub declared_type : (m : MessageFacts) → message_at facts (type_name scope) ≡ Some m → HasType p scope
   declared_type m e = type_there p scope (type_name scope) (seen ∙ ap (option_map (λ (m : MessageFacts). type_name scope)) e)
 
 -- a message that a view has a greater one has
@@ -97,7 +97,7 @@ module _ (earlier : List (List FileContent)) (batch : List FileContent) (old new
       (subst (λ types. IsOlder (view.types_of (view_of before)) t types t) (sym (settled_types (batch ∷ earlier) new is also))
       (grown_types earlier before batch after was.but.built.built adds t m e))
 
-  pub type_stays : (scope : OptionScope) → HasType old scope → HasType new scope
+  type_stays : (scope : OptionScope) → HasType old scope → HasType new scope
   type_stays scope has =
       let d = type_declared earlier old was kept scope has in
       declared_type (batch ∷ earlier) new is also scope d.0 (message_stays (view_of before) (view_of after) (views_stay before batch after adds) (type_name scope) d.0 d.1)

@@ -1,27 +1,21 @@
--- Schemas that sources made with types for all options came about batch by batch.
+-- Schemas that sources made came about batch by batch.
 use Rattle.std.proofs.Common.{◌≡◌, ◌∙◌, List, [], ◌∷◌, map, ap, refl, sym, subst}
 use Rattle.std.specs.List.{filter}
 use Rattle.descriptor_records.specs.Content.{FileContent, file_view}
 use Rattle.descriptor_records.specs.declared.file.FileDescriptorProto.{FileDescriptorProto}
 use Rattle.linked_names.specs.SourcePools.{IsSourcePool}
 use Rattle.settled_records.proofs.Typed.{typed_given}
-use Rattle.option_parts.specs.OptionTypes.{CanRead, ReadsOptions}
 use Rattle.option_parts.specs.TypedOptions.{TypedFiles, typed_file}
-use Rattle.option_parts.specs.declared.option_scope.OptionScope.{OptionScope}
-use Rattle.schema_laws.proofs.Settled.{settled_reads}
 use Rattle.protox_laws.proofs.Sources.{same_record}
 use Rattle.reflect_build.specs.Refusals.{IsOf, Linking, new_files}
 use Rattle.reflect_build.proofs.Parted.{one_new}
 use Rattle.reflect_pool.specs.Linked.{empty_pool}
 use Rattle.reflect_tables.specs.Types.{PoolType}
-use Rattle.schema_laws.specs.HeldOptions.{HasType}
-use Rattle.schema_laws.proofs.HeldStill.{type_stays}
-use Rattle.types_view.specs.Typed.{IsTyped}
 use Rattle.types_view.proofs.Pools.{empty_sound}
 use Rattle.schema_core.specs.Refusals.{AreFilesOf, IsPool, SourcesLinked}
 use Rattle.schema_core.specs.declared.schema.Schema.{Schema}
 use Rattle.schema_laws.specs.Histories.{AreNewFilesOf, BatchLinked, IsMadeBy, Sources}
-use Rattle.schema_laws.proofs.AddedBatches.{linked_batch}
+use Rattle.schema_laws.specs.SameSources.{given_in}
 use Rattle.schema_laws.proofs.BatchFiles.{AddsBatch, CameAbout, came_more, none_came}
 use Rattle.schema_laws.proofs.Naming.{named_by_sources}
 use Rattle.schema_laws.proofs.NewFiles.{lacks, new_seen}
@@ -29,7 +23,7 @@ use Rattle.schema_laws.proofs.SourceFiles.{options_of}
 
 -- ---- sources are one list of new files
 
-one_list : (sources : Sources) (fs gs : List FileDescriptorProto) → AreFilesOf sources fs → AreFilesOf sources gs → map file_view fs ≡ map file_view gs
+pub one_list : (sources : Sources) (fs gs : List FileDescriptorProto) → AreFilesOf sources fs → AreFilesOf sources gs → map file_view fs ≡ map file_view gs
 one_list [] [] [] are also = refl
 one_list [] [] (g ∷ gs) are also = absurd also
 one_list [] (f ∷ fs) gs are also = absurd are
@@ -59,7 +53,6 @@ adds_batch old new batch named add pool = by add.linked
       faultless = faultless;
       added = one_batch old.pool add.given files typed faultless.0 batch read copied faultless.1 add.files;
       given = typed_given files typed (options_of add.given files read) copied;
-      types = λ scope. subst (λ p. HasType p scope) settled ((add.types scope).0, (add.types scope).1);
       settles = settles;
       changes = record { settled = settled; bare = bare };
       is = pool;
@@ -81,18 +74,15 @@ pub new_batch : (old new : PoolType) (given : Sources) → SourcesLinked old giv
 new_batch old new given (files, read, (linked, (typed, copied, (adds, faultless, few)), settles, settled, bare)) =
     (map file_view (new_files faultless.0.indexes typed), (files, typed, faultless.0, read, copied, faultless.1, refl))
 
--- and types for all options stay
-pub types_stay : (earlier : List (List FileContent)) (old new : Schema) (given : Sources) → IsTyped earlier old.pool → IsPool old.pool → ((scope : OptionScope) → ReadsOptions old.pool scope)
-    → IsPool new.pool → SourcesLinked old.pool given new.pool → (scope : OptionScope) → ReadsOptions new.pool scope
-types_stay earlier old new given was is reads pool linked scope = by linked
-  where
-    by : SourcesLinked old.pool given new.pool → ReadsOptions new.pool scope
-    by (files, read, fit) =
-        let b = linked_batch earlier old.pool new.pool files was pool fit in
-        let has : HasType new.pool scope =
-        type_stays earlier (map file_view (new_files b.linking.indexes b.typed)) old.pool new.pool was b.built is.kept pool.kept scope ((reads scope).0, (reads scope).1) in
-        let can : CanRead new.pool scope = settled_reads fit.0 new.pool (record { settled = fit.3; bare = fit.4 }) scope (fit.2.readable scope) in
-        (has.0, has.1, can has.0 has.1)
+-- so each schema that sources made has a history, in which they are those that were given
+pub history_of : (batches : List Sources) (s : Schema) → IsMadeBy SourcesLinked batches s
+    → (fs : List (List FileContent)) × (made : IsMadeBy BatchLinked fs s) × (given_in fs s made ≡ batches)
+history_of [] s made = ([], made, refl)
+history_of (last ∷ earlier) s (old, before, linked, pool) =
+    let was : (fs : List (List FileContent)) × (made : IsMadeBy BatchLinked fs old) × (given_in fs old made ≡ earlier) = history_of earlier old before in
+    let b : (batch : List FileContent) × AreNewFilesOf old.pool last batch = new_batch old.pool s.pool last linked in
+    let add : BatchLinked old.pool b.0 s.pool = record { given = last; linked = linked; files = b.1 } in
+    (b.0 ∷ was.0, (old, was.1, add, pool), ap (λ (bs : List Sources). last ∷ bs) was.2)
 
 -- a schema without files, before the first
 abbrev pub without_files : Schema → Schema

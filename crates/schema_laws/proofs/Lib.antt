@@ -60,3 +60,14 @@ pub mod Refusing
 pub mod PassedTexts
 pub mod Chains
 pub mod WrittenAlike
+pub mod Sizes
+pub mod TakenOrRefused
+pub mod RequiredTypes
+pub mod Placed
+pub mod PlacedNames
+pub mod PlacedReferences
+pub mod PlacedNumbers
+pub mod PlacedLinking
+pub mod Lying
+pub mod EncodedOptions
+pub mod SettledEntities

@@ -1,42 +1,40 @@
 -- A file that was linked to one content in two pools of the same files in the end settled to one content; and where it
 -- differs in lines, columns and comments alone, so does what it settled to.
-use Rattle.std.proofs.Common.{◌≡◌, ◌<◌, ◌++◌, ◌∙◌, ℕ, List, [], ◌∷◌, map, length, None, Some, slice_get, ap, refl, sym, subst, arith, Contains}
+use Rattle.std.proofs.Common.{◌≡◌, ◌<◌, ◌++◌, ◌∙◌, ℕ, List, [], ◌∷◌, map, length, Some, slice_get, ap, refl, sym, subst, arith, Contains}
 use Rattle.std.proofs.lemmas.List.{length-map}
 use Rattle.std.proofs.lemmas.Option.{same_Some}
-use Rattle.std.proofs.lemmas.List.Elements.{recursion_from_All}
 use Rattle.std.specs.List.{AllByRecursion, AllZip}
 use Rattle.std.specs.Option.{option_map}
-use Rattle.descriptor_records.specs.Content.{FileContent, Text, file_view, options_view, unlocated}
+use Rattle.descriptor_records.specs.Content.{FileContent, OptionsContent, Text, file_view, option_view, options_view, unlocated}
 use Rattle.descriptor_records.specs.declared.file.FileDescriptorProto.{FileDescriptorProto}
 use Rattle.descriptor_records.specs.declared.options.Options.{Options}
 use Rattle.linked_view.proofs.Places.{get_less}
 use Rattle.stored_options.proofs.InOrders.{given_alike}
 use Rattle.stored_options.proofs.Leads.{lead_alike}
+use Rattle.stored_options.proofs.Unwritten.{unwritten_again}
 use Rattle.stored_options.specs.Standing.{HaveOneEnd, StandsIn}
-use Rattle.option_parts.specs.OptionTypes.{type_name}
+use Rattle.message_view.specs.Sound.{IsSound}
+use Rattle.option_parts.specs.OptionTypes.{CanRead}
 use Rattle.option_parts.specs.declared.option_scope.OptionScope.{OptionScope}
 use Rattle.option_setter.specs.declared.option_setter.NameScope.{NameScope}
 use Rattle.plain_records.specs.PlainRecords.{IsPlainFile}
+use Rattle.plain_records.specs.SaidOptions.{IsSettled}
 use Rattle.plain_records.specs.SourceOptions.{AreGiven}
 use Rattle.reflect_growth.proofs.Told.{header_seen, header_told}
 use Rattle.reflect_index.proofs.Among.{get_map}
 use Rattle.reflect_options.specs.Entities.{Entity, file_entities}
-use Rattle.reflect_options.specs.Settled.{Settles, StayAsTheyAre}
+use Rattle.reflect_options.specs.Settled.{Settles}
 use Rattle.reflect_options.specs.Settling.{IsScopeOf, SeesFrom}
-use Rattle.reflect_pool.specs.Dots.{without_dot}
 use Rattle.reflect_pool.specs.Imports.{names_of_files}
-use Rattle.reflect_pool.proofs.Places.{at_place}
-use Rattle.reflect_tables.specs.Finding.{IsFirst}
-use Rattle.reflect_tables.specs.Types.{FileType, MessageType, PoolType, no_type}
+use Rattle.reflect_tables.specs.Types.{FileType, PoolType}
 use Rattle.reflect_tables.specs.Views.{record_file}
 use Rattle.schema_view.specs.Lawful.{Builds, SameFiles, sources}
 use Rattle.schema_view.specs.Plain.{IsPlainFile as HasPlainName}
-use Rattle.schema_laws.specs.HeldOptions.{HasType}
 use Rattle.settled_records.specs.Alike.{AllSettleAlike, IsSameEntity, SettleAlike}
+use Rattle.settled_records.specs.Themselves.{SettlesToItself}
 use Rattle.settled_records.proofs.Pools.{settle_alike}
 use Rattle.settled_records.proofs.Unlocated.{settle_unlocated}
 use Rattle.settled_records.proofs.Walk.{same_entities}
-use Rattle.settled_records.proofs.Said.{no_dot}
 use Rattle.settled_records.proofs.AllOptions.{Said, file_keeps}
 use Rattle.settled_records.proofs.InEntities.{entities_of}
 use Rattle.settled_records.proofs.OfEntities.{Meets}
@@ -50,15 +48,6 @@ Own k file scope path o = (file ≡ k) × AreGiven scope o
 
 own_entities : (k : ℕ) (f : FileDescriptorProto) → IsPlainFile AreGiven 99 (file_view f) → AllByRecursion (Meets (Own k)) (file_entities k f)
 own_entities k f given = entities_of (Own k) k f (file_keeps (said AreGiven) (Own k k) (λ scope path o as_given. (refl, as_given)) (file_view f) (file_of AreGiven 99 (file_view f) given))
-
--- none stay as they are where there is a type for them
-types_settle : (p : PoolType) (scope : OptionScope) → HasType p scope → (s : NameScope) (o : Options) → s.pool.now ≡ p → StayAsTheyAre scope s o → ⊥
-types_settle p scope has s o is stay =
-    let here : IsFirst (λ (m : MessageType). m.full_name ≡ without_dot (type_name scope)) p.messages None =
-    subst (λ (q : PoolType). IsFirst (λ (m : MessageType). m.full_name ≡ without_dot (type_name scope)) q.messages None) is stay.0 in
-    let none : IsFirst (λ (m : MessageType). m.full_name ≡ type_name scope) p.messages None = subst (λ n. IsFirst (λ (m : MessageType). m.full_name ≡ n) p.messages None) (no_dot scope) here in
-    at_place (λ (m : MessageType). m.full_name ≡ type_name scope → ⊥) p.messages has.0 no_type
-    (recursion_from_All (λ (m : MessageType). m.full_name ≡ type_name scope → ⊥) p.messages none) has.1.0 (has.1.1.0 no_type)
 
 -- ---- the file's place
 module _ (batches : List (List FileContent)) (x y : FileContent) (a : IsOfLast batches x y) where
@@ -86,6 +75,22 @@ module _ (batches : List (List FileContent)) (x y : FileContent) (a : IsOfLast b
     seen = subst (λ k. SeesFrom a.pool k s.seen.now) own scope.seen;
     name = scope.name;
   }
+
+  -- where nothing is left to settle in its options, they settle to what they are
+  settles_again : (c : Entity) → Meets (Own a.index) c → ((o : Options) → c.options ≡ Some o → IsSettled (options_view o)) → SettlesToItself a.pool c
+  settles_again c own left s o settled paths has in_pool settles =
+      let sound : IsSound s.pool.now = subst IsSound (sym in_pool) a.linked.sound in
+      let can : CanRead s.pool.now c.scope = subst (λ (p : PoolType). CanRead p c.scope) (sym in_pool) (a.settles.readable c.scope) in
+      let mine : (c.file ≡ a.index) × AreGiven c.scope (options_view o) = own o has in
+      unwritten_again c.scope s o settled paths sound can mine.1.0 (left o has) settles
+
+-- options of one content, of which nothing is left in one of the two
+nothing_left : (o w : Options) → options_view w ≡ options_view o → o.uninterpreted_option.items ≡ [] → IsSettled (options_view w)
+nothing_left o w same none = ap (λ (c : OptionsContent). c.uninterpreted_option) same ∙ ap (map option_view) none
+
+same_options : (c d : Entity) → IsSameEntity c d → (o w : Options) → c.options ≡ Some o → d.options ≡ Some w → options_view w ≡ options_view o
+same_options c d same o w has have =
+    same_Some (options_view w) (options_view o) (sym (ap (option_map options_view) have) ∙ sym same.options ∙ ap (option_map options_view) has)
 
 -- ---- in both pools, where it may differ in lines, columns and comments
 module _ (batches others : List (List FileContent)) (after last : List FileContent) (plain : (f : FileContent) → Contains (sources batches) f → HasPlainName f)
@@ -118,13 +123,12 @@ module _ (batches others : List (List FileContent)) (after last : List FileConte
 
   entity_settles : (c d : Entity) → IsSameEntity c d → Meets (Own a.index) c → Meets (Own b.index) d → SettleAlike a.pool b.pool c d
   entity_settles c d e own its = record {
-    here = λ o s has scope stay. types_settle a.pool c.scope (a.linked.types c.scope) s o scope.pool stay;
-    there = λ o s has scope stay. types_settle b.pool d.scope (b.linked.types d.scope) s o scope.pool stay;
+    here = λ o s has scope stay. settles_again other.own u z b d its (λ w have. nothing_left o w (same_options c d e o w has have) stay.1);
+    there = λ w s have scope stay. settles_again one.own x y a c own (λ o has. nothing_left w o (sym (same_options c d e o w has have)) stay.1);
     alike = λ o w settled differs s t paths ways has have scope range settles also_settles. (
         let mine : (c.file ≡ a.index) × AreGiven c.scope (options_view o) = own o has in
         let theirs : (d.file ≡ b.index) × AreGiven d.scope (options_view w) = its w have in
-        let one_view : options_view w ≡ options_view o =
-        same_Some (options_view w) (options_view o) (sym (ap (option_map options_view) have) ∙ sym e.options ∙ ap (option_map options_view) has) in
+        let one_view : options_view w ≡ options_view o = same_options c d e o w has have in
         let here : StandsIn one.own a.pool s (header_told x).name c.name = stands one.own x y a s c mine.0 scope in
         let there : StandsIn other.own b.pool t (header_told x).name c.name =
         subst (λ (n : Text). StandsIn other.own b.pool t (header_told x).name n) (sym e.name)

@@ -5,18 +5,16 @@ use Rattle.descriptor_records.specs.Content.{FileContent, file_view, unlocated}
 use Rattle.option_parts.specs.TypedOptions.{typed_file}
 use Rattle.protox_parse.specs.Answers.{IsAnswered}
 use Rattle.schema_view.specs.Lawful.{SameFiles, sources}
-use Rattle.schema_view.specs.Plain.{IsPlainFile}
 use Rattle.schema_view.proofs.Lists.{contains_map, contains_map_cases}
 use Rattle.schema_core.specs.Refusals.{SourcesLinked}
 use Rattle.schema_core.specs.declared.schema.Schema.{Schema}
 use Rattle.source_grammar.proofs.Answered.{same_record}
-use Rattle.source_laws.proofs.Sources.{source_undotted}
 use Rattle.schema_laws.specs.Batches.{HaveSameFiles}
 use Rattle.schema_laws.specs.Histories.{BatchLinked, IsMadeBy, Sources}
 use Rattle.schema_laws.specs.SameSources.{AreSameSources, HaveTheirLike, given_in}
-use Rattle.schema_laws.proofs.Histories.{came_about}
-use Rattle.schema_laws.proofs.PlainNames.{file_stays, undotted}
-use Rattle.schema_laws.proofs.StayingSources.{ComeOf, came_of, come_in}
+use Rattle.schema_laws.proofs.Histories.{came_about, history_of}
+use Rattle.schema_laws.proofs.PlainNames.{undotted}
+use Rattle.schema_laws.proofs.StayingSources.{ComeOf, come_in}
 
 pub same_made : (batches others : List (List FileContent)) (s t : Schema) → IsMadeBy BatchLinked batches s → IsMadeBy BatchLinked others t
     → SameFiles (map unlocated (sources batches)) (map unlocated (sources others)) → HaveSameFiles batches others s t
@@ -26,11 +24,6 @@ same_made batches others s t made also same =
     record { plain = undotted batches s made; same = same; first = a.typed; second = b.typed; pool = a.is; other_pool = b.is }
 
 -- ---- sources of the same tokens
-
-plain_come : (batches : List Sources) (fs : List FileContent) → ComeOf batches fs → (c : FileContent) → Contains fs c → IsPlainFile c
-plain_come batches fs come c i =
-    let s = come.from c i in
-    subst IsPlainFile (sym s.2.is) (file_stays (file_view s.2.file) (source_undotted s.0.0 s.0.1 s.2.file s.2.answered))
 
 one_way : (batches others : List Sources) (xs ys : List FileContent) → ComeOf batches xs → ComeOf others ys → HaveTheirLike batches others
     → (f : FileContent) → Contains (map unlocated xs) f → Contains (map unlocated ys) f
@@ -52,19 +45,18 @@ pub same_in_histories : (batches others : List (List FileContent)) (s t : Schema
 same_in_histories batches others s t made also =
     same_files (given_in batches s made) (given_in others t also) (sources batches) (sources others) (come_in batches s made) (come_in others t also)
 
+-- so schemas that sources of the same tokens made have histories of the same files
+pub same_histories : (batches others : List Sources) (s t : Schema) → IsMadeBy SourcesLinked batches s → IsMadeBy SourcesLinked others t → AreSameSources batches others
+    → (fs : List (List FileContent)) × (gs : List (List FileContent)) × IsMadeBy BatchLinked fs s × IsMadeBy BatchLinked gs t × SameFiles (map unlocated (sources fs)) (map unlocated (sources gs))
+same_histories batches others s t made also same =
+    let a : (fs : List (List FileContent)) × (made : IsMadeBy BatchLinked fs s) × (given_in fs s made ≡ batches) = history_of batches s made in
+    let b : (gs : List (List FileContent)) × (made : IsMadeBy BatchLinked gs t) × (given_in gs t made ≡ others) = history_of others t also in
+    let given : AreSameSources (given_in a.0 s a.1) (given_in b.0 t b.1) =
+    subst (AreSameSources (given_in a.0 s a.1)) (sym b.2) (subst (λ (bs : List Sources). AreSameSources bs others) (sym a.2) same) in
+    (a.0, b.0, a.1, b.1, same_in_histories a.0 b.0 s t a.1 b.1 given)
+
 pub same_sources : (batches others : List Sources) (s t : Schema) → IsMadeBy SourcesLinked batches s → IsMadeBy SourcesLinked others t → AreSameSources batches others
     → (fs : List (List FileContent)) × (gs : List (List FileContent)) × HaveSameFiles fs gs s t
 same_sources batches others s t made also same =
-    let a = came_of batches s made in
-    let b = came_of others t also in (
-      a.files,
-      b.files,
-      record {
-        plain = plain_come batches (sources a.files) a.come;
-        same = same_files batches others (sources a.files) (sources b.files) a.come b.come same;
-        first = a.typed;
-        second = b.typed;
-        pool = a.is;
-        other_pool = b.is;
-      },
-    )
+    let h = same_histories batches others s t made also same in
+    (h.0, h.1, same_made h.0 h.1 s t h.2 h.3 h.4)

@@ -37,7 +37,7 @@ mutual
   messages_stay no_messages h = tt
   messages_stay (more_messages m ms) h = (message_stays m h.0, messages_stay ms h.1)
 
-pub file_stays : (f : FileContent) → IsPlainFile f → IsPlainFile (typed_file f)
+file_stays : (f : FileContent) → IsPlainFile f → IsPlainFile (typed_file f)
 file_stays f h = record {
   messages = all_turned typed_message IsPlainMessage IsPlainMessage message_stays f.message_type h.messages;
   enums = enums_stay f.enum_type h.enums;

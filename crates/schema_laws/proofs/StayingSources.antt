@@ -1,27 +1,23 @@
 -- The files that a schema was made of are those of the sources that stayed.
-use Rattle.std.proofs.Common.{◌≡◌, ◌⊎◌, ◌∙◌, ◌++◌, inl, inr, ℕ, List, [], ◌∷◌, Option, None, Some, Bool, true, false, not, map, ap, refl, sym, subst}
+use Rattle.std.proofs.Common.{◌≡◌, ◌∙◌, ◌++◌, inl, inr, ℕ, List, [], ◌∷◌, Option, None, Some, true, false, not, map, ap, refl, sym, subst}
 use Rattle.std.specs.List.{Contains, filter}
 use Rattle.std.specs.Prelude.{is_some}
 use Rattle.std.proofs.lemmas.List.Elements.{All-contains, All-contains_itself, All-filter, Contains-append_cases, Contains-append_left, Contains-append_right, filter_passes}
 use Rattle.descriptor_records.specs.Content.{FileContent, Text, file_view}
 use Rattle.descriptor_records.specs.declared.file.FileDescriptorProto.{FileDescriptorProto}
 use Rattle.option_parts.specs.TypedOptions.{typed_file}
-use Rattle.reflect_build.specs.Refusals.{IsOf, Linking, new_files}
-use Rattle.reflect_pool.specs.Linked.{empty_pool}
+use Rattle.reflect_build.specs.Refusals.{IsOf, Linking}
 use Rattle.reflect_tables.specs.Types.{PoolType}
-use Rattle.schema_core.specs.Refusals.{AreFilesOf, IsFileOf, SourcesLinked}
+use Rattle.schema_core.specs.Refusals.{AreFilesOf, IsFileOf}
 use Rattle.schema_core.specs.declared.schema.Schema.{Schema}
 use Rattle.schema_view.specs.Files.{file_name, text_of}
 use Rattle.schema_view.specs.Lawful.{sources}
 use Rattle.schema_view.proofs.Lists.{contains_cases, contains_here, contains_map, contains_map_cases, contains_none, contains_there}
 use Rattle.types_view.specs.Pools.{IsPool}
 use Rattle.types_view.specs.Typed.{IsTyped}
-use Rattle.types_view.proofs.Settled.{empty_typed}
-use Rattle.schema_laws.specs.Histories.{AreNewFilesOf, BatchLinked, IsMadeBy, Sources}
-use Rattle.schema_laws.specs.SameSources.{Source, Stays, given_in}
-use Rattle.schema_laws.proofs.AddedBatches.{linked_batch}
+use Rattle.schema_laws.specs.Histories.{AreNewFilesOf, BatchLinked, IsMadeBy, Source, Sources}
+use Rattle.schema_laws.specs.SameSources.{Stays, given_in}
 use Rattle.schema_laws.proofs.FileNames.{file_named, name_stands}
-use Rattle.schema_laws.proofs.Grown.{empty_is_pool}
 use Rattle.schema_laws.proofs.Histories.{came_about}
 use Rattle.schema_laws.proofs.Lists.{filtered}
 use Rattle.schema_laws.proofs.NewFiles.{lacks, new_seen}
@@ -113,7 +109,7 @@ module _ (earlier : List Sources) (older : List (List FileContent)) (come : Come
       let among : Contains written c = contains_map typed_file (map file_view files) (file_view f.0) (contains_map file_view files f.0 f.1) in
       (c, filtered (lacks w.indexes) written c among (is_lacked s c for fresh), for)
 
-  pub come_more : ComeOf (last ∷ earlier) (new ++ sources older)
+  come_more : ComeOf (last ∷ earlier) (new ++ sources older)
   come_more = record {
     from = λ c i. elim (Contains-append_cases new (sources older) c i) [
       | inl j ↦ new_from c j
@@ -125,36 +121,10 @@ module _ (earlier : List Sources) (older : List (List FileContent)) (come : Come
     ];
   }
 
--- ---- all of them
-
--- sources made the pool of these files
-pub record CameOf (batches : List Sources) (p : PoolType) : Type 0 where
-  pub files : List (List FileContent)
-  pub typed : IsTyped files p
-  pub is : IsPool p
-  pub come : ComeOf batches (sources files)
+-- ---- all of a history
 
 none_come : ComeOf [] []
 none_come = record { from = λ c i. absurd (contains_none c i); to = λ s stays. absurd stays }
-
-came_none : CameOf [] empty_pool
-came_none = record { files = []; typed = empty_typed; is = empty_is_pool; come = none_come }
-
-pub came_of : (batches : List Sources) (s : Schema) → IsMadeBy SourcesLinked batches s → CameOf batches s.pool
-came_of [] s is = subst (CameOf []) (sym is) came_none
-came_of (last ∷ earlier) s (old, before, (files, are, fit), pool) =
-    let was = came_of earlier old before in
-    let b = linked_batch was.files old.pool s.pool files was.typed pool fit in
-    let new : map file_view (new_files b.linking.indexes b.typed) ≡ filter (lacks b.linking.indexes) (map typed_file (map file_view files)) =
-    new_seen b.linking.indexes b.typed ∙ ap (filter (lacks b.linking.indexes)) b.types in
-    record {
-      files = filter (lacks b.linking.indexes) (map typed_file (map file_view files)) ∷ was.files;
-      typed = subst (λ (fs : List FileContent). IsTyped (fs ∷ was.files) s.pool) new b.built;
-      is = pool;
-      come = come_more earlier was.files was.come old.pool was.typed was.is b.linking b.of last files are;
-    }
-
--- ---- and those of a history
 
 pub come_in : (batches : List (List FileContent)) (s : Schema) (made : IsMadeBy BatchLinked batches s) → ComeOf (given_in batches s made) (sources batches)
 come_in [] s made = none_come

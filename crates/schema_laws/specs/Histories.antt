@@ -2,9 +2,7 @@
 use Rattle.std.specs.Prelude.{◌≡◌, ℕ, List, [], ◌∷◌, map}
 use Rattle.descriptor_records.specs.Content.{FileContent, file_view}
 use Rattle.descriptor_records.specs.declared.file.FileDescriptorProto.{FileDescriptorProto}
-use Rattle.option_parts.specs.OptionTypes.{ReadsOptions}
 use Rattle.option_parts.specs.TypedOptions.{TypedFiles}
-use Rattle.option_parts.specs.declared.option_scope.OptionScope.{OptionScope}
 use Rattle.reflect_build.specs.Refusals.{IsOf, Linking, new_files}
 use Rattle.reflect_pool.specs.Linked.{empty_pool}
 use Rattle.reflect_tables.specs.Types.{PoolType}
@@ -18,9 +16,13 @@ IsMadeBy Linked [] s = s.pool ≡ empty_pool
 IsMadeBy Linked (last ∷ earlier) s =
     (old : Schema) × IsMadeBy Linked earlier old × Linked old.pool last s.pool × IsPool s.pool
 
--- sources that are added together, by name and text
+-- a source's name and text
+abbrev pub Source : Type 0
+Source = List ℕ × List ℕ
+
+-- sources that are added together
 abbrev pub Sources : Type 0
-Sources = List (List ℕ × List ℕ)
+Sources = List Source
 
 -- what is added together: sources, or the bytes of a descriptor set
 pub data Addition : Type 0 where
@@ -42,9 +44,8 @@ AreNewFilesOf p given batch = (files typed : List FileDescriptorProto) × (w : L
     × AreFilesOf given files × TypedFiles files typed × IsOf p w
     × (map file_view (new_files w.indexes typed) ≡ batch)
 
--- sources were added with which these files came, and there are types for all options then
+-- sources were added with which these files came
 pub record BatchLinked (old : PoolType) (batch : List FileContent) (new : PoolType) : Type 0 where
   pub given : Sources
   pub linked : SourcesLinked old given new
   pub files : AreNewFilesOf old given batch
-  pub types : (scope : OptionScope) → ReadsOptions new scope

@@ -1,4 +1,5 @@
 pub mod Schemas
+pub mod PlacedFaults
 pub mod Records
 pub mod Reprints
 pub mod Histories
@@ -8,3 +9,5 @@ pub mod Detours
 pub mod HeldOptions
 pub mod ToldMessages
 pub mod StoredBytes
+pub mod LyingBytes
+pub mod InBraces

@@ -1,13 +1,9 @@
 -- Sources that differ in their gaps and comments alone.
-use Rattle.std.specs.Prelude.{◌≡◌, ◌⊎◌, List, [], ◌∷◌, ℕ, Contains}
+use Rattle.std.specs.Prelude.{◌≡◌, ◌⊎◌, List, [], ◌∷◌, Contains}
 use Rattle.descriptor_records.specs.Content.{FileContent}
 use Rattle.schema_core.specs.declared.schema.Schema.{Schema}
-use Rattle.schema_laws.specs.Histories.{BatchLinked, IsMadeBy, Sources}
+use Rattle.schema_laws.specs.Histories.{BatchLinked, IsMadeBy, Source, Sources}
 use Rattle.source_grammar.specs.SameTokens.{HaveSameTokens}
-
--- a source, by name and text
-abbrev pub Source : Type 0
-Source = List ℕ × List ℕ
 
 -- Of sources that were added, the last batch of them first, this one stays: it came under a name
 -- under which none was there.

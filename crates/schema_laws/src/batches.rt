@@ -21,12 +21,13 @@ ghost use Rattle.schema_core.specs.declared.error.SchemaError.{SchemaError};
 ghost use Rattle.schema_core.specs.declared.error.SchemaError.TheVariants.{Link, Memory, Options};
 ghost use Rattle.schema_core.specs.declared.schema.Schema.{Schema};
 ghost use Rattle.schema_laws.specs.Batches.{AreNoBatch, FitUnsettled, HaveSameFiles};
+ghost use Rattle.schema_laws.specs.Histories.{Sources};
 
 /// Sources that are added are one batch more, and the schema's pool still tells of its fields. What
 /// `IsPool` asks each pool has, as `pools_are_whole` says.
 pub fn added_sources_are_a_batch()
     ensures { (earlier : List (List FileContent)) (old new : Schema)
-        (sources : List (List ℕ × List ℕ)) → IsTyped earlier old.pool → IsPool new.pool
+        (sources : Sources) → IsTyped earlier old.pool → IsPool new.pool
         → SourcesLinked old.pool sources new.pool
         → (files typed : List FileDescriptorProto) × (w : Linking) × AreFilesOf sources files
         × TypedFiles files typed × IsOf old.pool w
@@ -48,7 +49,7 @@ pub fn added_sets_are_a_batch()
 /// they are too many. So lawful sources link.
 pub fn sources_that_do_not_link_are_no_batch()
     ensures { (earlier : List (List FileContent)) (old : Schema)
-        (sources : List (List ℕ × List ℕ)) (e : DescriptorError)
+        (sources : Sources) (e : DescriptorError)
         → (is : IsBuiltBut earlier old.pool) → IsPool old.pool
         → SourcesRefused old.pool sources (Link e)
         → (files typed : List FileDescriptorProto) × AreFilesOf sources files
@@ -65,9 +66,9 @@ pub fn sets_that_do_not_link_are_no_batch()
 {}
 
 /// Where sources are refused for their options, the files that they are fit together with the
-/// schema's, but the pool that they make has no settled one. So options that can be settled are.
+/// schema's, but the pool that they make has no settled one.
 pub fn sources_with_refused_options_do_not_settle()
-    ensures { (old : Schema) (sources : List (List ℕ × List ℕ)) (e : OptionError)
+    ensures { (old : Schema) (sources : Sources) (e : OptionError)
         → SourcesRefused old.pool sources (Options e)
         → (files : List FileDescriptorProto) × AreFilesOf sources files
         × FitUnsettled old.pool files }

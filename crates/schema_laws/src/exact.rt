@@ -1,14 +1,49 @@
 //! Laws of how what a schema takes and what it refuses exclude each other, each the contract of a
-//! function that does nothing.
+//! function that does nothing. That `IsPool` holds of each pool `pools_are_whole` says.
 ghost use Rattle.std.specs.Prelude.{ℕ, List};
+ghost use Rattle.option_parts.specs.OptionTypes.{ReadsOptions, TellsRequired};
+ghost use Rattle.option_parts.specs.declared.option_error.OptionErrorKind.{OptionErrorKind};
+ghost use Rattle.option_parts.specs.declared.option_scope.OptionScope.{OptionScope};
 ghost use Rattle.protox_parse.specs.declared.error.ParseError.{ParseError};
+ghost use Rattle.reflect_passes.specs.declared.error.DescriptorError.{DescriptorError};
+ghost use Rattle.reflect_pool.specs.Linked.{empty_pool};
 ghost use Rattle.reflect_tables.specs.Types.{PoolType};
-ghost use Rattle.schema_core.specs.Refusals.{AreSmall, SourcesLinked, SourcesRefused};
-ghost use Rattle.schema_core.specs.declared.error.SchemaError.TheVariants.{Parse};
+ghost use Rattle.reflect_wire.specs.declared.wire_error.WireError.{WireError};
+ghost use Rattle.schema_core.specs.Refusals.{AreSmall, IsPool, SetLinked, SetRefused};
+ghost use Rattle.schema_core.specs.Refusals.{SourcesLinked, SourcesRefused};
+ghost use Rattle.schema_core.specs.declared.error.SchemaError.TheVariants.{Link, Parse, TooLong};
+ghost use Rattle.schema_core.specs.declared.error.SchemaError.TheVariants.{Wire};
+ghost use Rattle.schema_core.specs.declared.schema.Schema.{Schema};
+ghost use Rattle.schema_laws.specs.Histories.{IsGrown, Sources};
 
 /// Of sources that are added to one schema, each of fewer bytes than are too large, none is
-/// refused as such, by that schema or another.
+/// refused as such, by that schema or another; and a schema that takes them does not refuse them
+/// for how they link.
 pub fn linked_sources_are_not_refused()
-    ensures { (p q new : PoolType) (given : List (List ℕ × List ℕ)) (e : ParseError)
+    ensures parsed { (p q new : PoolType) (given : Sources) (e : ParseError)
         → AreSmall given → SourcesLinked p given new → SourcesRefused q given (Parse e) → ⊥ }
+    ensures linked { (old new : Schema) (given : Sources) (e : DescriptorError)
+        → IsGrown old → IsPool new.pool → SourcesLinked old.pool given new.pool
+        → SourcesRefused old.pool given (Link e) → ⊥ }
+{}
+
+/// The bytes of a set that is added to one schema are not refused as no set, by that schema or
+/// another; and a schema that takes its files does not refuse them for how they link.
+pub fn linked_sets_are_not_refused()
+    ensures spelled { (p q new : PoolType) (bytes : List ℕ) (e : WireError)
+        → SetLinked p bytes new → SetRefused q bytes (Wire e) → ⊥ }
+    ensures short { (p q new : PoolType) (bytes : List ℕ)
+        → SetLinked p bytes new → SetRefused q bytes TooLong → ⊥ }
+    ensures linked { (old new : Schema) (bytes : List ℕ) (e : DescriptorError)
+        → IsGrown old → IsPool new.pool → SetLinked old.pool bytes new.pool
+        → SetRefused old.pool bytes (Link e) → ⊥ }
+{}
+
+/// A source that makes a schema by which all options are read is not refused for a type of options
+/// that it lacks, or that options are not read by.
+pub fn sources_with_all_types_lack_none()
+    ensures { (given : Sources) (s : Schema) (new : PoolType) (kind : OptionErrorKind)
+        → IsPool s.pool → IsPool new → SourcesLinked empty_pool given s.pool
+        → ((scope : OptionScope) → ReadsOptions s.pool scope)
+        → SourcesLinked empty_pool given new → TellsRequired new kind → ⊥ }
 {}

@@ -3,6 +3,7 @@
 #![tactic(auto)]
 
 pub mod batches;
+pub mod braces;
 pub mod detour;
 pub mod exact;
 pub mod growth;
@@ -13,6 +14,7 @@ pub mod option_bytes;
 pub mod option_types;
 pub mod orders;
 pub mod own_records;
+pub mod places;
 pub mod presence;
 pub mod records;
 pub mod texts;

@@ -14,6 +14,7 @@ ghost use Rattle.schema_core.specs.Refusals.{SourcesLinked, TextRefused, descrip
 ghost use Rattle.schema_core.specs.declared.error.SchemaError.{SchemaError};
 ghost use Rattle.schema_core.specs.declared.error.SchemaError.TheVariants.{Memory};
 ghost use Rattle.schema_core.specs.declared.schema.Schema.{Schema};
+ghost use Rattle.schema_laws.specs.Histories.{Sources};
 ghost use Rattle.schema_laws.specs.Reprints.{IsShallow};
 
 /// The names of a new schema are as sources give them.
@@ -25,7 +26,7 @@ pub fn new_schemas_have_source_names()
 
 /// They stay so where sources are added.
 pub fn added_sources_keep_source_names()
-    ensures { (old new : Schema) (sources : List (List ℕ × List ℕ))
+    ensures { (old new : Schema) (sources : Sources)
         → SourcesLinked old.pool sources new.pool → IsSourcePool old.pool
         → IsSourcePool new.pool }
 {}

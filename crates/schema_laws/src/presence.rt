@@ -19,7 +19,7 @@ ghost use Rattle.schema_laws.specs.Histories.{IsMadeBy, Sources};
 
 /// Sources that are added keep it so.
 pub fn added_sources_keep_messages_present()
-    ensures { (old new : Schema) (sources : List (List ℕ × List ℕ))
+    ensures { (old new : Schema) (sources : Sources)
         → SourcesLinked old.pool sources new.pool → HasPresentMessages old.pool
         → HasPresentMessages new.pool }
 {}
@@ -38,7 +38,7 @@ pub fn present_messages_are_printed()
 /// Sources that are added keep it so that a field without presence is in no oneof and its default
 /// is a value of its kind, as the laws of texts with defaults ask.
 pub fn added_sources_keep_unset_read()
-    ensures { (old new : Schema) (sources : List (List ℕ × List ℕ))
+    ensures { (old new : Schema) (sources : Sources)
         → SourcesLinked old.pool sources new.pool → HaveReadDefaults (types_of old.pool)
         → HaveReadDefaults (types_of new.pool) }
 {}

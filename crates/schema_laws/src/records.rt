@@ -11,12 +11,13 @@ ghost use Rattle.reflect_tables.specs.Types.{PoolType};
 ghost use Rattle.types_view.specs.Pools.{IsRecorded};
 ghost use Rattle.schema_core.specs.Refusals.{SetLinked, SourcesLinked};
 ghost use Rattle.schema_core.specs.declared.schema.Schema.{Schema};
+ghost use Rattle.schema_laws.specs.Histories.{Sources};
 ghost use Rattle.schema_laws.specs.Records.{HasPlainRecords};
 
 /// The records of a schema without files are plain, and stay so where sources are added.
 pub fn added_sources_leave_records_plain()
     ensures empty { IsRecorded empty_pool × HasPlainRecords empty_pool }
-    ensures kept { (old : PoolType) (new : Schema) (sources : List (List ℕ × List ℕ))
+    ensures kept { (old : PoolType) (new : Schema) (sources : Sources)
         → HasPlainRecords old → SourcesLinked old sources new.pool → HasPlainRecords new.pool }
 {}
 

@@ -1,0 +1,74 @@
+//! Laws of options that sources give in braces, each the contract of a function that does nothing.
+//! `ComeTo p n scope o settled` says that options `o` of one record of a source, whose names are
+//! looked up where `n` says, were settled to `settled` as a pool became `p`; `IsInBraces` that one
+//! of them is given with a text in braces, and leads along numbers to a field of one message; and
+//! `Encoded s.pool name text out` is what `encode` promises where a schema `s` answers.
+ghost use Rattle.std.specs.declared.alloc.Global.{Global};
+ghost use Rattle.std.specs.Prelude.{◌≡◌, ◌≤◌, [], ℕ, ℤ, List, Option, Some, Vec, Contains};
+ghost use Rattle.std.specs.Prelude.{length, slice_get};
+ghost use Rattle.descriptor_records.specs.Content.{options_view};
+ghost use Rattle.descriptor_records.specs.declared.file.FileDescriptorProto.{FileDescriptorProto};
+ghost use Rattle.descriptor_records.specs.declared.options.Options.{Options};
+ghost use Rattle.known_messages.specs.KnownMessages.{KnowsAll};
+ghost use Rattle.message_view.specs.Types.{types_of};
+ghost use Rattle.option_parts.specs.OptionTypes.{type_name};
+ghost use Rattle.option_parts.specs.declared.option_scope.OptionScope.{OptionScope};
+ghost use Rattle.option_setter.specs.declared.option_setter.NameScope.{NameScope};
+ghost use Rattle.protobuf_model.specs.Bytes.{bytes_of};
+ghost use Rattle.protobuf_model.specs.Types.{Name};
+ghost use Rattle.protobuf_model.specs.Values.{Message, content, message};
+ghost use Rattle.reflect_growth.specs.declared.settle.Edit.TheVariants as edits;
+ghost use Rattle.reflect_options.specs.Entities.{Entity, file_entities};
+ghost use Rattle.reflect_options.specs.Settling.{IsScopeOf, SettlesPool};
+ghost use Rattle.reflect_pool.specs.Dots.{without_dot};
+ghost use Rattle.reflect_tables.specs.Types.{PoolType};
+ghost use Rattle.settled_view.specs.BuiltBut.{ChangesOptions};
+ghost use Rattle.stored_options.specs.Braces.{held_along};
+ghost use Rattle.stored_options.specs.NamedNumbers.{numbers_named};
+ghost use Rattle.text_view.specs.Schemas.{schema_of};
+ghost use Rattle.schema_core.specs.Payloads.{Encoded};
+ghost use Rattle.schema_core.specs.Refusals.{AreFilesOf, FilesFit, IsPool};
+ghost use Rattle.schema_core.specs.declared.schema.Schema.{Schema};
+ghost use Rattle.schema_laws.specs.Histories.{Sources};
+ghost use Rattle.schema_laws.specs.InBraces.{ComeTo, IsInBraces};
+ghost use Rattle.schema_laws.specs.LyingBytes.{LieAlong};
+
+/// What an option in braces holds is what `encode` gives for the text in its braces: what is stored
+/// of its record's options is written of a message, of which their type knows all, and in it the
+/// message that the option holds is written so. And so the bytes that `encode` gives lie in those
+/// that are stored, along the numbers that the option's name leads to.
+pub fn options_in_braces_hold_what_their_text_encodes_to()
+    ensures message { (s : Schema) (decoded : Name → List ℕ → Option Message) (n : NameScope)
+        (scope : OptionScope) (o settled : Options) → ComeTo s.pool n scope o settled
+        → (ns name text out : List ℕ)
+        → IsInBraces (schema_of s.pool decoded) (numbers_named n) (type_name scope)
+        (options_view o).uninterpreted_option ns (without_dot name) text
+        → Encoded s.pool name text out
+        → (m inner : Message) × KnowsAll (types_of s.pool) (type_name scope) m
+        × (settled.encoded.items ≡ bytes_of (types_of s.pool) (type_name scope) m)
+        × (held_along ns m ≡ content (message inner))
+        × (bytes_of (types_of s.pool) (without_dot name) inner ≡ out) }
+    ensures bytes { (s : Schema) (decoded : Name → List ℕ → Option Message) (n : NameScope)
+        (scope : OptionScope) (o settled : Options) → ComeTo s.pool n scope o settled
+        → (ns name text out : List ℕ)
+        → IsInBraces (schema_of s.pool decoded) (numbers_named n) (type_name scope)
+        (options_view o).uninterpreted_option ns (without_dot name) text
+        → Encoded s.pool name text out → LieAlong ns settled.encoded.items out }
+{}
+
+/// Such are the options of each record that sources brought: where their files fit behind a pool,
+/// and options were settled in the pool that they were linked to, one of the edits by which the
+/// schema's pool came of it puts what the options came to at the record's path.
+pub fn options_of_added_sources_come_to_what_is_stored()
+    ensures { (old linked : PoolType) (s : Schema) (given : Sources)
+        (files : List FileDescriptorProto) → AreFilesOf given files → FilesFit old files linked
+        → (settles : SettlesPool linked (length old.files) s.pool)
+        → ChangesOptions linked s.pool → IsPool s.pool
+        → (i : ℕ) (f : FileDescriptorProto) (c : Entity) (o : Options)
+        → length old.files ≤ i → slice_get linked.records i ≡ Some f
+        → Contains (file_entities i f) c → c.options ≡ Some o
+        → ((options_view o).uninterpreted_option ≡ [] → ⊥)
+        → (n : NameScope) × (settled : Options) × (at : Vec ℤ Global) × IsScopeOf linked c n
+        × ComeTo s.pool n c.scope o settled × (at.items ≡ c.path)
+        × Contains settles.edits (edits.Options c.file at settled) }
+{}
