@@ -1,14 +1,16 @@
 -- Options of sources that are given in braces (protobuf.dev, "Language Guide (proto 2)", Custom
 -- Options).
-use Rattle.std.specs.Prelude.{◌≡◌, ◌∷◌, ◌++◌, ℕ, ℤ, List, Some}
+use Rattle.std.specs.Prelude.{◌≡◌, ◌∷◌, ◌++◌, ℕ, ℤ, List, Some, Contains, slice_get}
 use Rattle.std.specs.List.{AllByRecursion}
 use Rattle.descriptor_records.specs.Content.{OptionContent, Text, options_view}
+use Rattle.descriptor_records.specs.declared.file.FileDescriptorProto.{FileDescriptorProto}
 use Rattle.descriptor_records.specs.declared.options.Options.{Options}
 use Rattle.option_parts.specs.OptionTypes.{CanRead}
 use Rattle.option_parts.specs.declared.option_scope.OptionScope.{OptionScope}
 use Rattle.option_setter.specs.declared.option_setter.NameScope.{NameScope}
 use Rattle.plain_records.specs.SourceOptions.{AreGiven}
 use Rattle.protobuf_model.specs.Types.{Name}
+use Rattle.reflect_options.specs.Entities.{Entity, file_entities}
 use Rattle.reflect_options.specs.Settled.{Settles}
 use Rattle.reflect_tables.specs.Types.{PoolType}
 use Rattle.settled_view.specs.BuiltBut.{ChangesOptions}
@@ -37,3 +39,8 @@ pub record ComeTo (p : PoolType) (n : NameScope) (scope : OptionScope) (o settle
   pub paths : List (List ℤ)
   pub settles : Settles scope n o (options_view settled) paths
   pub changes : ChangesOptions n.pool.now p
+
+-- these options stand at a path in the record of a pool's file: an entity that is there has them
+abbrev pub StandAt : PoolType → ℕ → List ℤ → Options → Type 0
+StandAt p i path o = (f : FileDescriptorProto) × (d : Entity) × (slice_get p.records i ≡ Some f)
+    × Contains (file_entities i f) d × (d.path ≡ path) × (d.options ≡ Some o)

@@ -3,8 +3,7 @@
 //! looked up where `n` says, were settled to `settled` as a pool became `p`; `IsInBraces` that one
 //! of them is given with a text in braces, and leads along numbers to a field of one message; and
 //! `Encoded s.pool name text out` is what `encode` promises where a schema `s` answers.
-ghost use Rattle.std.specs.declared.alloc.Global.{Global};
-ghost use Rattle.std.specs.Prelude.{◌≡◌, ◌≤◌, [], ℕ, ℤ, List, Option, Some, Vec, Contains};
+ghost use Rattle.std.specs.Prelude.{◌≡◌, ◌≤◌, [], ℕ, List, Option, Some, Contains};
 ghost use Rattle.std.specs.Prelude.{length, slice_get};
 ghost use Rattle.descriptor_records.specs.Content.{options_view};
 ghost use Rattle.descriptor_records.specs.declared.file.FileDescriptorProto.{FileDescriptorProto};
@@ -17,7 +16,6 @@ ghost use Rattle.option_setter.specs.declared.option_setter.NameScope.{NameScope
 ghost use Rattle.protobuf_model.specs.Bytes.{bytes_of};
 ghost use Rattle.protobuf_model.specs.Types.{Name};
 ghost use Rattle.protobuf_model.specs.Values.{Message, content, message};
-ghost use Rattle.reflect_growth.specs.declared.settle.Edit.TheVariants as edits;
 ghost use Rattle.reflect_options.specs.Entities.{Entity, file_entities};
 ghost use Rattle.reflect_options.specs.Settling.{IsScopeOf, SettlesPool};
 ghost use Rattle.reflect_pool.specs.Dots.{without_dot};
@@ -30,7 +28,7 @@ ghost use Rattle.schema_core.specs.Payloads.{Encoded};
 ghost use Rattle.schema_core.specs.Refusals.{AreFilesOf, FilesFit, IsPool};
 ghost use Rattle.schema_core.specs.declared.schema.Schema.{Schema};
 ghost use Rattle.schema_laws.specs.Histories.{Sources};
-ghost use Rattle.schema_laws.specs.InBraces.{ComeTo, IsInBraces};
+ghost use Rattle.schema_laws.specs.InBraces.{ComeTo, IsInBraces, StandAt};
 ghost use Rattle.schema_laws.specs.LyingBytes.{LieAlong};
 
 /// What an option in braces holds is what `encode` gives for the text in its braces: what is stored
@@ -57,18 +55,17 @@ pub fn options_in_braces_hold_what_their_text_encodes_to()
 {}
 
 /// Such are the options of each record that sources brought: where their files fit behind a pool,
-/// and options were settled in the pool that they were linked to, one of the edits by which the
-/// schema's pool came of it puts what the options came to at the record's path.
+/// and options were settled in the pool that they were linked to, what the options came to stands
+/// at the record's path in the file that the schema has.
 pub fn options_of_added_sources_come_to_what_is_stored()
     ensures { (old linked : PoolType) (s : Schema) (given : Sources)
         (files : List FileDescriptorProto) → AreFilesOf given files → FilesFit old files linked
-        → (settles : SettlesPool linked (length old.files) s.pool)
+        → SettlesPool linked (length old.files) s.pool
         → ChangesOptions linked s.pool → IsPool s.pool
         → (i : ℕ) (f : FileDescriptorProto) (c : Entity) (o : Options)
         → length old.files ≤ i → slice_get linked.records i ≡ Some f
         → Contains (file_entities i f) c → c.options ≡ Some o
         → ((options_view o).uninterpreted_option ≡ [] → ⊥)
-        → (n : NameScope) × (settled : Options) × (at : Vec ℤ Global) × IsScopeOf linked c n
-        × ComeTo s.pool n c.scope o settled × (at.items ≡ c.path)
-        × Contains settles.edits (edits.Options c.file at settled) }
+        → (n : NameScope) × (settled : Options) × IsScopeOf linked c n
+        × ComeTo s.pool n c.scope o settled × StandAt s.pool i c.path settled }
 {}

@@ -40,7 +40,7 @@ module _ (pool : PoolType) (P : Edit → Type 0) (moved : (file place : ℕ) (pa
   entities_edits (c ∷ cs) es ms edit (own, rest, moved, more, settles, others, is, are) =
       subst (AllByRecursion P) (sym is) (all_append P own rest (entity_edits c own moved edit.0 settles) (entities_edits cs rest more edit.1 others))
 
-  locations_edits : (ms : List Move) (file place : ℕ) (ls : List Location) (es : List Edit) → EditsLocations (target_in ms) file place ls es → AllByRecursion P es
+  pub locations_edits : (ms : List Move) (file place : ℕ) (ls : List Location) (es : List Edit) → EditsLocations (target_in ms) file place ls es → AllByRecursion P es
   locations_edits ms file place [] es none = subst (AllByRecursion P) (sym none) tt
   locations_edits ms file place (l ∷ ls) es (to, own, rest, moves, edit, others, is) =
       subst (AllByRecursion P) (sym is) (all_append P own rest (by to edit) (locations_edits ms file (place + 1) ls rest others))

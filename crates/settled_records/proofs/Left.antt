@@ -84,7 +84,7 @@ module _ (e : Edit) (es : List Edit) (file : ℕ) (at : List ℤ) (new : Options
     (only : (k : ℕ) (path : List ℤ) → IsPutAt k path e → (file ≡ k) × (at ≡ path)) where
   puts_here : Puts new (Waits (e ∷ es) file) (Waits es file) at
   puts_here = record {
-    fresh = λ scope path. inl is_settled;
+    fresh = λ scope. inl is_settled;
     others = λ scope path o was. elim was [
       | inl done ↦ inr (inl done)
       | inr h ↦ elim h [ inl here ↦ inl (sym (only file path here).1) | inr there ↦ inr (inr there) ]

@@ -22,12 +22,16 @@ pub mod Said
 pub mod ScopeTypes
 pub mod Told
 pub mod Walk
+pub mod OwnPaths
+pub mod PutTold
+pub mod PutFiles
 pub mod Changes
 pub mod Moved
 pub mod Placed
 pub mod PutElsewhere
 pub mod Mixed
 pub mod Pools
+pub mod Becomes
 pub mod Unlocated
 pub mod Typed
 pub mod Linked

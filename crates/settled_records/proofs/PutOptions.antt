@@ -8,9 +8,9 @@ use Rattle.option_parts.specs.declared.option_scope.OptionScope.TheVariants as s
 use Rattle.reflect_growth.specs.Put.{enum_put, field_put, file_put, message_put, method_put, nested_at, oneof_put, own_put, path_put, put_in, put_nested, range_put, service_put, value_put, with_at}
 use Rattle.settled_records.proofs.AllOptions.{InEnum, InField, InFile, InList, InMessage, InMessages, InMethod, InOneof, InOwn, InRange, InService, InValue, Keeps, KeepsAll, KeepsFrom, Said, below, declared_keep, enum_keeps, field_keeps, list_keeps, message_keeps, messages_keep, method_keeps, oneof_keeps, own_keeps, parts_keep, range_keeps, service_keeps, value_keeps}
 
--- options that are put at a path: these are so, and all others that were
+-- options that are put at a path: these are so there, and all others that were
 pub record Puts (new : OptionsContent) (Q R : Said) (at : List ℤ) : Type 0 where
-  pub fresh : (scope : OptionScope) (path : List ℤ) → R scope path new
+  pub fresh : (scope : OptionScope) → R scope at new
   pub others : (scope : OptionScope) (path : List ℤ) (o : OptionsContent) → Q scope path o → (path ≡ at) ⊎ R scope path o
 
 place_is : (number other : ℤ) (k j : ℕ) (path rest : List ℤ) → number ∷ pos k ∷ path ≡ other ∷ pos j ∷ rest → k ≡ j
@@ -30,7 +30,7 @@ module _ (new : OptionsContent) where
   -- in the entry that it leads to
   into : (Q R : Said) (number : ℤ) (k : ℕ) (rest : List ℤ) → Puts new Q R (number ∷ pos k ∷ rest) → Puts new (below Q number k) (below R number k) rest
   into Q R number k rest puts = record {
-    fresh = λ scope path. puts.fresh scope (number ∷ pos k ∷ path);
+    fresh = λ scope. puts.fresh scope;
     others = λ scope path o was. elim (puts.others scope (number ∷ pos k ∷ path) o was) [ inl e ↦ inl (rest_is number k path rest e) | inr is ↦ inr is ];
   }
 
@@ -75,7 +75,7 @@ module _ (new : OptionsContent) where
 
   -- ---- records
   own_puts : (scope : OptionScope) (path : List ℤ) (Q R : Said) → Puts new Q R path → (x : Option OptionsContent) → InOwn scope Q x → InOwn scope R (own_put path new x)
-  own_puts scope [] Q R puts x all = puts.fresh scope []
+  own_puts scope [] Q R puts x all = puts.fresh scope
   own_puts scope (number ∷ rest) Q R puts x all = own_stay scope Q R (number ∷ rest) puts (goes_on number rest) x all
 
   field_puts : (path : List ℤ) (Q R : Said) → Puts new Q R path → (f : FieldContent) → InField Q f → InField R (field_put path new f)
@@ -101,7 +101,7 @@ module _ (new : OptionsContent) where
   short Q R only puts number k far = past Q R (only ∷ []) puts number k (λ path e. cc)
 
   enum_puts : (path : List ℤ) (Q R : Said) → Puts new Q R path → (e : EnumContent) → InEnum Q e → InEnum R (enum_put path new e)
-  enum_puts [] Q R puts e all = (puts.fresh scopes.Enum [], list_keeps InValue value_keeps Q R (pos 2) 0 (above Q R puts (pos 2)) e.value all.1)
+  enum_puts [] Q R puts e all = (puts.fresh scopes.Enum, list_keeps InValue value_keeps Q R (pos 2) 0 (above Q R puts (pos 2)) e.value all.1)
   enum_puts (number ∷ []) Q R puts e all =
       (own_stay scopes.Enum Q R (number ∷ []) puts (goes_on number []) e.options all.0, list_keeps InValue value_keeps Q R (pos 2) 0 (short Q R number puts (pos 2)) e.value all.1)
   enum_puts (number ∷ place ∷ rest) Q R puts e all = (
@@ -110,7 +110,7 @@ module _ (new : OptionsContent) where
   )
 
   service_puts : (path : List ℤ) (Q R : Said) → Puts new Q R path → (s : ServiceContent) → InService Q s → InService R (service_put path new s)
-  service_puts [] Q R puts s all = (puts.fresh scopes.Service [], list_keeps InMethod method_keeps Q R (pos 2) 0 (above Q R puts (pos 2)) s.method all.1)
+  service_puts [] Q R puts s all = (puts.fresh scopes.Service, list_keeps InMethod method_keeps Q R (pos 2) 0 (above Q R puts (pos 2)) s.method all.1)
   service_puts (number ∷ []) Q R puts s all =
       (own_stay scopes.Service Q R (number ∷ []) puts (goes_on number []) s.options all.0, list_keeps InMethod method_keeps Q R (pos 2) 0 (short Q R number puts (pos 2)) s.method all.1)
   service_puts (number ∷ place ∷ rest) Q R puts s all = (
@@ -149,7 +149,7 @@ module _ (new : OptionsContent) where
 
   message_puts : (path : List ℤ) (Q R : Said) → Puts new Q R path → (m : MessageContent) → InMessage Q m → InMessage R (message_put path new m)
   message_puts [] Q R puts (message name fields extensions nested enums ranges oneofs options reserved names) all =
-      (parts_keep Q R (above Q R puts) fields extensions enums ranges oneofs options (Some new) (puts.fresh scopes.Message []) all.0, messages_keep Q R (pos 3) 0 (above Q R puts (pos 3)) nested all.1)
+      (parts_keep Q R (above Q R puts) fields extensions enums ranges oneofs options (Some new) (puts.fresh scopes.Message) all.0, messages_keep Q R (pos 3) 0 (above Q R puts (pos 3)) nested all.1)
   message_puts (number ∷ []) Q R puts (message name fields extensions nested enums ranges oneofs options reserved names) all = (
     parts_keep Q R (short Q R number puts) fields extensions enums ranges oneofs options options (own_stay scopes.Message Q R (number ∷ []) puts (goes_on number []) options all.0.own) all.0,
     messages_keep Q R (pos 3) 0 (short Q R number puts (pos 3)) nested all.1,
@@ -169,7 +169,7 @@ module _ (new : OptionsContent) where
 
   -- ---- files
   pub file_puts : (path : List ℤ) (Q R : Said) → Puts new Q R path → (f : FileContent) → InFile Q f → InFile R (file_put path new f)
-  file_puts [] Q R puts f all = declared_keep Q R (above Q R puts) f (Some new) (puts.fresh scopes.File []) all
+  file_puts [] Q R puts f all = declared_keep Q R (above Q R puts) f (Some new) (puts.fresh scopes.File) all
   file_puts (number ∷ []) Q R puts f all = declared_keep Q R (short Q R number puts) f f.options (own_stay scopes.File Q R (number ∷ []) puts (goes_on number []) f.options all.own) all
   file_puts (number ∷ place ∷ rest) Q R puts f all = record {
     message_type = in_puts InMessage message_keeps (message_put rest new) rest (message_puts rest) Q R 4 number place puts f.message_type all.message_type;

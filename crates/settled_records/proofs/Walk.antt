@@ -111,7 +111,7 @@ mutual
 
 -- ---- files
 -- all of a file
-file_told : (i : ℕ) (f : FileDescriptorProto) → map told (file_entities i f) ≡ file_tells (file_view f)
+pub file_told : (i : ℕ) (f : FileDescriptorProto) → map told (file_entities i f) ≡ file_tells (file_view f)
 file_told i f =
     let n = text_of f.package in
     let behind = past_trees no_offsets (trees_of f) in

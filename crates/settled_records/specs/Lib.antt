@@ -1,2 +1,3 @@
 pub mod Themselves
 pub mod Alike
+pub mod Becoming

@@ -6,4 +6,5 @@
 pub mod alike_files;
 pub mod laws;
 pub mod linking;
+pub mod records;
 pub mod said_bytes;
