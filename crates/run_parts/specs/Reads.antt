@@ -9,6 +9,10 @@ use Rattle.run_parts.specs.declared.files.FileFault.TheVariants as files
 abbrev pub Reply : Type 0
 Reply = Result (List ℕ) ReadFault
 
+-- what a read of a path may answer, of what the files are before it and after it
+abbrev pub Gives : Type 0 → Type 1
+Gives F = F → List ℕ → Reply → F → Type 0
+
 -- how it is told that a path was not read: by this path, or memory runs out
 abbrev pub IsToldAs : List ℕ → ReadFault → FileFault → Type 0
 IsToldAs path read.Read (files.Read told) = string_bytes told ≡ path
@@ -20,9 +24,8 @@ IsToldAs path read.Memory e = e ≡ files.Memory
 abbrev pub path_under : List ℕ → List ℕ → List ℕ
 path_under root name = root ++ (codes "/" ++ name)
 
--- Reads of the named sources, one after another, give these contents; `gives` says what a read may
--- answer, of what the files are before it and after it.
-abbrev pub ReadsEach : {F : Type 0} → (F → List ℕ → Reply → F → Type 0)
+-- reads of the named sources, one after another, give these contents
+abbrev pub ReadsEach : {F : Type 0} → Gives F
     → List ℕ → List (List ℕ) → List (List ℕ) → F → F → Type 0
 ReadsEach gives root [] [] f g = f ≡ g
 ReadsEach gives root [] (c ∷ cs) f g = ⊥
@@ -32,7 +35,7 @@ ReadsEach gives root (n ∷ ns) (c ∷ cs) f g = (h : _) × gives f (path_under 
 
 -- The first of the named sources that is not read is told, or memory runs out at one of them,
 -- before its read or after it; nothing is read after that.
-abbrev pub RefusesSources : {F : Type 0} → (F → List ℕ → Reply → F → Type 0)
+abbrev pub RefusesSources : {F : Type 0} → Gives F
     → List ℕ → List (List ℕ) → F → FileFault → F → Type 0
 RefusesSources gives root [] f e g = ⊥
 RefusesSources gives root (n ∷ ns) f e g = ((e ≡ files.Memory) × (f ≡ g))

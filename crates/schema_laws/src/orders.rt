@@ -35,7 +35,7 @@ pub fn new_schemas_have_a_history()
 /// that it had not yet.
 pub fn added_sources_are_history()
     ensures { (earlier : List (List FileContent)) (old new : Schema)
-        (given : List (List ℕ × List ℕ)) → IsMadeBy BatchLinked earlier old
+        (given : Sources) → IsMadeBy BatchLinked earlier old
         → IsPool new.pool → SourcesLinked old.pool given new.pool
         → (batch : List FileContent) × AreNewFilesOf old.pool given batch
         × IsMadeBy BatchLinked (batch ∷ earlier) new }
