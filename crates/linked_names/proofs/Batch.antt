@@ -16,7 +16,7 @@ use Rattle.reflect_declarations.specs.Tree.{text_of, MessageParts}
 use Rattle.reflect_declarations.specs.declared.offsets.Offsets.{Offsets}
 use Rattle.reflect_known.specs.DeclaredNames.{with_names}
 use Rattle.reflect_known.specs.KnownNames.{definition_of, package_of, known_behind, nothing_known, nothing_before, known_of_files}
-use Rattle.reflect_names.specs.Faults.{batch_places}
+use Rattle.reflect_faults.specs.Faults.{batch_places}
 use Rattle.reflect_names.specs.FileNames.{with_files, files_faults}
 use Rattle.reflect_names.specs.NamePass.{faults_along}
 use Rattle.reflect_index.specs.DraftNames.{stored_message_name, stored_extension_name}

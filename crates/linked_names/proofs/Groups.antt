@@ -14,7 +14,7 @@ use Rattle.reflect_scope.specs.declared.definition.ResolveNameFilter.TheVariants
 use Rattle.reflect_scope.proofs.Steps.{undotted_found, undotted_more, resolve_undotted}
 use Rattle.reflect_declarations.specs.Declarations.{Declaration, of_field}
 use Rattle.reflect_declarations.specs.Tree.{text_of}
-use Rattle.reflect_names.specs.Faults.{batch_places}
+use Rattle.reflect_faults.specs.Faults.{batch_places}
 use Rattle.reflect_names.specs.ImportedFiles.{links_to}
 use Rattle.reflect_names.specs.Names.{Places}
 use Rattle.reflect_names.specs.References.{View, Target, meaning_of, kind_meant, suits, unmet, mismatch, type_name_faults, label_faults, type_faults, targets_of, reference_faults_at}

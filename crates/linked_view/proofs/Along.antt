@@ -14,7 +14,7 @@ use Rattle.reflect_declarations.specs.declared.offsets.Offsets.{Offsets}
 use Rattle.reflect_declarations.specs.Tree.{MessageParts}
 use Rattle.reflect_declarations.specs.Declarations.{Declaration, Body, of_file, of_message, of_field, of_extension, file_declarations, past_file}
 use Rattle.reflect_declarations.specs.Batches.{batch_declarations}
-use Rattle.reflect_names.specs.Faults.{Fault}
+use Rattle.reflect_faults.specs.Faults.{Fault}
 use Rattle.reflect_names.specs.Names.{Places}
 use Rattle.reflect_tables.specs.Ranges.{Range, IsRangeOf}
 use Rattle.reflect_tables.specs.Ranges as pool

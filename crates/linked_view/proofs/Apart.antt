@@ -4,7 +4,7 @@ use Rattle.std.proofs.lemmas.Bool.{cases_lt}
 use Rattle.std.proofs.lemmas.Bool.Decides.{Decides-int_eq}
 use Rattle.std.specs.List.{list_any}
 use Rattle.reflect_declarations.specs.Declarations.{each}
-use Rattle.reflect_names.specs.Faults.{Fault, Place}
+use Rattle.reflect_faults.specs.Faults.{Fault, Place}
 use Rattle.reflect_names.specs.Names.{Places}
 use Rattle.reflect_rules.specs.Repeats.{is_number, repeat_at, repeats, listed, repeat_faults}
 use Rattle.reflect_build.proofs.Rules.{none_both}

@@ -10,7 +10,7 @@ use Rattle.reflect_scope.specs.declared.seen.Links.{Links}
 use Rattle.reflect_declarations.specs.Tree.{text_of}
 use Rattle.reflect_declarations.specs.Batches.{batch_declarations}
 use Rattle.reflect_known.specs.KnownNames.{known_behind, nothing_known, nothing_before, known_of_files, counts_of_files}
-use Rattle.reflect_names.specs.Faults.{batch_places}
+use Rattle.reflect_faults.specs.Faults.{batch_places}
 use Rattle.reflect_names.specs.FileNames.{with_files, files_faults}
 use Rattle.reflect_names.specs.ImportedFiles.{links_to}
 use Rattle.reflect_names.specs.ReferencePass.{AreSeen}

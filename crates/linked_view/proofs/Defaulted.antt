@@ -7,7 +7,7 @@ use Rattle.descriptor_records.specs.declared.file.FileDescriptorProto.{FileDescr
 use Rattle.reflect_scope.specs.declared.definition.Definition.{Definition}
 use Rattle.reflect_scope.specs.declared.definition.DefinitionKind.TheVariants as kind
 use Rattle.reflect_scope.specs.Known.{Known}
-use Rattle.reflect_names.specs.Faults.{batch_places}
+use Rattle.reflect_faults.specs.Faults.{batch_places}
 use Rattle.reflect_names.specs.ReferencePass.{views_of}
 use Rattle.reflect_passes.specs.Linked.{enum_at, HasValue}
 use Rattle.reflect_passes.specs.NameFaults.{name_faults}

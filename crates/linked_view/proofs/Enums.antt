@@ -6,7 +6,7 @@ use Rattle.descriptor_records.specs.Content.{EnumValueContent, OptionsContent, o
 use Rattle.descriptor_records.specs.declared.enums.EnumDescriptorProto.{EnumDescriptorProto}
 use Rattle.descriptor_records.specs.declared.enums.EnumValueDescriptorProto.{EnumValueDescriptorProto}
 use Rattle.descriptor_records.specs.declared.options.Options.{Options}
-use Rattle.reflect_names.specs.Faults.{duplicate_enum_number}
+use Rattle.reflect_faults.specs.Faults.{duplicate_enum_number}
 use Rattle.reflect_names.specs.Names.{Places}
 use Rattle.reflect_walk.specs.MapEntries.{is_true}
 use Rattle.reflect_rules.specs.MapEntries.{is_equal}

@@ -8,7 +8,7 @@ use Rattle.reflect_scope.specs.declared.definition.ResolveNameFilter.TheVariants
 use Rattle.reflect_scope.specs.Means.{Meaning, means, not_found, wrong_kind, shadowed}
 use Rattle.reflect_declarations.specs.Tree.{MessageParts}
 use Rattle.reflect_declarations.specs.Declarations.{Declaration, of_message, of_field}
-use Rattle.reflect_names.specs.Faults.{Fault, Place as Spot, duplicate_number}
+use Rattle.reflect_faults.specs.Faults.{Fault, Place as Spot, duplicate_number}
 use Rattle.reflect_names.specs.Names.{Places}
 use Rattle.reflect_names.specs.References.{View, meaning_of, kind_meant, suits, unmet, mismatch, type_name_faults, type_faults, label_faults, reference_faults_at}
 use Rattle.reflect_names.specs.ReferencePass.{reference_faults_along}

@@ -7,7 +7,7 @@ use Rattle.reflect_build.specs.Refusals.{Linking, with_declared, IsOf}
 use Rattle.reflect_index.proofs.Batched.{Stand, batch_stands, names_behind}
 use Rattle.reflect_index.proofs.Orders.{AreUpTo}
 use Rattle.reflect_known.specs.DeclaredNames.{with_names}
-use Rattle.reflect_names.specs.Faults.{batch_places}
+use Rattle.reflect_faults.specs.Faults.{batch_places}
 use Rattle.reflect_names.specs.FileNames.{with_files, files_faults}
 use Rattle.reflect_names.specs.NamePass.{faults_along}
 use Rattle.reflect_passes.specs.NameFaults.{name_faults}

@@ -13,7 +13,7 @@ use Rattle.reflect_index.specs.Along.{before_files}
 use Rattle.reflect_index.specs.DraftNames.{stored_enum_name}
 use Rattle.reflect_known.specs.DeclaredNames.{with_names}
 use Rattle.reflect_known.specs.KnownNames.{definition_of, known_of_files}
-use Rattle.reflect_names.specs.Faults.{Fault, batch_places}
+use Rattle.reflect_faults.specs.Faults.{Fault, batch_places}
 use Rattle.reflect_names.specs.FileNames.{files_faults}
 use Rattle.reflect_names.specs.ReferencePass.{views_of, reference_faults_along}
 use Rattle.reflect_names.specs.References.{View, reference_faults_at}

@@ -17,7 +17,7 @@ use Rattle.reflect_scope.specs.Means.{Meaning, means, not_found, wrong_kind, sha
 use Rattle.reflect_declarations.specs.declared.offsets.Offsets.{Offsets}
 use Rattle.reflect_declarations.specs.Declarations.{Declaration, Body, of_file, of_field, of_method, of_extension, file_declarations, past_file}
 use Rattle.reflect_declarations.specs.Batches.{batch_declarations}
-use Rattle.reflect_names.specs.Faults.{Place}
+use Rattle.reflect_faults.specs.Faults.{Place}
 use Rattle.reflect_names.specs.Names.{Places}
 use Rattle.reflect_names.specs.References.{View, meaning_of, unmet, is_in, is_type_of, suits, kind_meant, mismatch, reference_faults, type_name_faults, label_faults, type_faults, field_reference_faults, reference_faults_at}
 use Rattle.reflect_names.specs.ReferencePass.{views_of, reference_faults_along}

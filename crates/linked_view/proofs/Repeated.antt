@@ -6,7 +6,7 @@ use Rattle.std.proofs.lemmas.Bool.Decides.{Decides-int_eq}
 use Rattle.std.proofs.lemmas.List.Sums.{sum_by-cons, sum_by-append}
 use Rattle.std.proofs.Math.Seq.{take-append_seam}
 use Rattle.reflect_declarations.specs.Declarations.{each}
-use Rattle.reflect_names.specs.Faults.{Fault, Place}
+use Rattle.reflect_faults.specs.Faults.{Fault, Place}
 use Rattle.reflect_names.specs.Names.{Places}
 use Rattle.reflect_rules.specs.Repeats.{is_number, repeat_at, repeats, listed, repeat_faults}
 use Rattle.schema_view.specs.Rules as rules

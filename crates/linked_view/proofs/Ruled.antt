@@ -11,7 +11,7 @@ use Rattle.reflect_scope.specs.declared.definition.DefinitionKind.TheVariants as
 use Rattle.reflect_declarations.specs.Tree.{MessageParts}
 use Rattle.reflect_walk.specs.MapEntries.{says_entry}
 use Rattle.reflect_declarations.specs.Declarations.{Declaration, Body, of_message, of_field, of_enum, of_extension}
-use Rattle.reflect_names.specs.Faults.{Fault, duplicate_number}
+use Rattle.reflect_faults.specs.Faults.{Fault, duplicate_number}
 use Rattle.reflect_names.specs.Names.{Places}
 use Rattle.reflect_tables.specs.Ranges.{Range, IsIn, IsRangeOf}
 use Rattle.reflect_references.specs.Meanings.{meaning, behind}

@@ -6,7 +6,7 @@ use Rattle.reflect_declarations.specs.Batches.{batch_declarations}
 use Rattle.reflect_declarations.specs.Declarations.{Declaration}
 use Rattle.reflect_declarations.specs.Tree.{MessageParts}
 use Rattle.reflect_declarations.specs.declared.offsets.Offsets.{Offsets}
-use Rattle.reflect_names.specs.Faults.{duplicate_number}
+use Rattle.reflect_faults.specs.Faults.{duplicate_number}
 use Rattle.reflect_names.specs.Names.{Places}
 use Rattle.reflect_names.specs.declared.resolve_visitor.Reference.{Reference}
 use Rattle.reflect_references.specs.Meanings.{meaning}

@@ -9,7 +9,7 @@ use Rattle.reflect_known.specs.GivenNames.{names_of_file}
 use Rattle.reflect_known.specs.KnownNames.{nothing_known, nothing_before, known_of_files}
 use Rattle.reflect_known.proofs.GivenNames.{known_told}
 use Rattle.reflect_index.specs.Along.{before_files}
-use Rattle.reflect_names.specs.Faults.{batch_places}
+use Rattle.reflect_faults.specs.Faults.{batch_places}
 use Rattle.reflect_passes.specs.NameFaults.{name_faults}
 use Rattle.reflect_tables.specs.Names.{FullName, AreFound, found, message_name, names_of, messages}
 use Rattle.reflect_tables.specs.Types.{PoolType, ExtensionType}

@@ -6,7 +6,7 @@ use Rattle.descriptor_records.specs.Content.{FileContent, file_view}
 use Rattle.descriptor_records.specs.declared.file.FileDescriptorProto.{FileDescriptorProto}
 use Rattle.reflect_build.specs.Accepted.{FaultlessBatch, FaultlessFiles}
 use Rattle.reflect_build.specs.Refusals.{Linking, with_declared, IsOf, new_files}
-use Rattle.reflect_names.specs.Faults.{batch_places}
+use Rattle.reflect_faults.specs.Faults.{batch_places}
 use Rattle.reflect_names.specs.ReferencePass.{views_of}
 use Rattle.reflect_passes.specs.Linked.{linked_says}
 use Rattle.reflect_passes.specs.NameFaults.{name_faults}

@@ -8,7 +8,7 @@ ghost use Rattle.reflect_build.specs.Refusals.{Faulty, FaultyExtensions, FaultyN
 ghost use Rattle.reflect_build.specs.Refusals.{FaultyReferences, IsOf, Linking};
 ghost use Rattle.reflect_build.specs.Refusals.{new_files, with_declared};
 ghost use Rattle.reflect_known.specs.KnownNames.{known_of_files};
-ghost use Rattle.reflect_names.specs.Faults.{Fault};
+ghost use Rattle.reflect_faults.specs.Faults.{Fault};
 ghost use Rattle.reflect_names.specs.Names.{Places};
 ghost use Rattle.reflect_names.specs.ReferencePass.{views_of, BatchReferences, reference_faults_along};
 ghost use Rattle.reflect_names.specs.ReferenceSteps.{target_of};

@@ -2,10 +2,10 @@
 use Rattle.std.specs.Prelude.{◌≡◌, ◌≤◌, ℕ, List, Option, Some, option_map, slice_get}
 use Rattle.std.specs.Option.{option_and_then}
 use Rattle.descriptor_records.specs.declared.file.FileDescriptorProto.{FileDescriptorProto}
-use Rattle.reflect_names.specs.Faults.{Place, place_of}
-use Rattle.reflect_names.specs.Spans.{locations, span_among}
+use Rattle.reflect_faults.specs.Faults.{Place, place_of}
+use Rattle.reflect_faults.specs.Spans.{locations, span_among}
 use Rattle.reflect_tables.specs.Views.{text_of}
-use Rattle.reflect_names.specs.declared.label.SourceSpan.{SourceSpan}
+use Rattle.reflect_faults.specs.declared.label.SourceSpan.{SourceSpan}
 use Rattle.option_parts.specs.declared.option_error.OptionError.{OptionError}
 
 -- where an error's fault stands, and where in its source, if that is told

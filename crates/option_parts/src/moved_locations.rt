@@ -3,7 +3,7 @@
 ghost use Rattle.std.specs.Prelude.{◌≡◌, ◌++◌, ◌≤◌, ◌<◌, List, IfOk, None, OnOk, drop, length, option_map, take};
 ghost use Rattle.option_parts.specs.Moves.{EditsLocations, MovesTo, targets_of};
 ghost use Rattle.reflect_growth.specs.declared.settle.Edit.{Edit};
-ghost use Rattle.reflect_names.specs.Spans.{locations};
+ghost use Rattle.reflect_faults.specs.Spans.{locations};
 
 use descriptor_records::{FileDescriptorProto, join_path, tag};
 use reflect_build::Edit;

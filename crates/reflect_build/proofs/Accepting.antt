@@ -2,8 +2,8 @@
 use Rattle.std.proofs.Common.{◌≡◌, ◌++◌, List, [], map, ap, sym, ◌∙◌}
 use Rattle.descriptor_records.specs.Content.{file_view}
 use Rattle.descriptor_records.specs.declared.file.FileDescriptorProto.{FileDescriptorProto}
-use Rattle.reflect_names.specs.Faults.{batch_places, list_of, place_at}
-use Rattle.reflect_names.specs.declared.faults.Faults.{Faults}
+use Rattle.reflect_faults.specs.Faults.{batch_places, list_of, place_at}
+use Rattle.reflect_faults.specs.declared.faults.Faults.{Faults}
 use Rattle.reflect_names.specs.declared.resolve_visitor.Reference.{Reference}
 use Rattle.reflect_tables.specs.Types.{PoolType}
 use Rattle.reflect_known.specs.GivenNames.{names_of_file}

@@ -12,7 +12,7 @@ use Rattle.reflect_scope.specs.declared.seen.Links.{Links}
 use Rattle.reflect_declarations.specs.Batches.{batch_declarations}
 use Rattle.reflect_declarations.specs.Declarations.{each, file_declarations, past_file}
 use Rattle.reflect_declarations.specs.declared.offsets.Offsets.{Offsets}
-use Rattle.reflect_names.specs.Faults.{Fault}
+use Rattle.reflect_faults.specs.Faults.{Fault}
 use Rattle.reflect_scope.specs.FileIndexes.{Indexes, link_view, is_index}
 use Rattle.reflect_names.specs.ImportedFiles.{file_of, import_at as import_of, links_to}
 use Rattle.reflect_scope.specs.Known.{Known}

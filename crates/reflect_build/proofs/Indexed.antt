@@ -7,7 +7,7 @@ use Rattle.std.proofs.lemmas.Option.{same_Some, slice_get_within}
 use Rattle.std.specs.Cmp.Lexicographic.{bytes_decides}
 use Rattle.std.specs.Map.{update}
 use Rattle.descriptor_records.specs.declared.file.FileDescriptorProto.{FileDescriptorProto}
-use Rattle.reflect_names.specs.Faults.{Fault}
+use Rattle.reflect_faults.specs.Faults.{Fault}
 use Rattle.reflect_scope.specs.FileIndexes.{Indexes, KeepsIndexes}
 use Rattle.reflect_names.specs.FileNames.{file_faults, with_file, with_files, files_faults}
 use Rattle.reflect_names.specs.Names.{Places}

@@ -10,7 +10,7 @@ use Rattle.reflect_declarations.specs.Declarations.{Declaration, Body, of_field}
 use Rattle.reflect_walk.specs.MapEntries.{says_entry}
 use Rattle.reflect_declarations.specs.Tree.{MessageParts}
 use Rattle.reflect_declarations.specs.declared.offsets.Offsets.{Offsets}
-use Rattle.reflect_names.specs.Faults.{batch_places}
+use Rattle.reflect_faults.specs.Faults.{batch_places}
 use Rattle.reflect_names.specs.declared.resolve_visitor.Reference.{Reference}
 use Rattle.reflect_fields.specs.Fields.{natural}
 use Rattle.reflect_tables.specs.Types.{FieldType}

@@ -10,7 +10,7 @@ use Rattle.std.specs.Cmp.{eq_by_cmp_equiv}
 use Rattle.std.specs.List.{AllByRecursion, filter}
 use Rattle.std.specs.Map.{lookup, keys_of}
 use Rattle.std.specs.Ordering.{eq_by_cmp}
-use Rattle.reflect_names.specs.Faults.{Fault, Place}
+use Rattle.reflect_faults.specs.Faults.{Fault, Place}
 use Rattle.reflect_tables.specs.Names.{FullName, AreInOrder, extension_name}
 use Rattle.reflect_tables.specs.Types.{ExtensionType}
 use Rattle.reflect_tables.specs.Views.{extension_of}

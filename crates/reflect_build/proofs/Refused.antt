@@ -29,8 +29,8 @@ use Rattle.reflect_known.specs.DeclaredNames.{with_names}
 use Rattle.reflect_tables.specs.Types.{PoolType}
 use Rattle.reflect_index.specs.OfDeclarations.{AllDeclared, messages_in, enums_in, stored_ranges, stored_values, declared_values}
 use Rattle.reflect_index.specs.declared.batch.Batch.{Batch}
-use Rattle.reflect_names.specs.Faults.{Fault, another, batch_places, list_of, place_at}
-use Rattle.reflect_names.specs.declared.faults.Faults.{Faults}
+use Rattle.reflect_faults.specs.Faults.{Fault, another, batch_places, list_of, place_at}
+use Rattle.reflect_faults.specs.declared.faults.Faults.{Faults}
 use Rattle.reflect_names.specs.declared.resolve_visitor.Reference.{Reference}
 use Rattle.reflect_passes.specs.Errors.{ListsFaults, faults_of}
 use Rattle.reflect_passes.specs.NameFaults.{name_faults}

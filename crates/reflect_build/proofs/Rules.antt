@@ -3,7 +3,7 @@ use Rattle.std.proofs.Common.{◌≡◌, inl, inr, ℕ, Bool, true, false, not, 
 use Rattle.reflect_declarations.specs.Tree.{MessageParts}
 use Rattle.reflect_walk.specs.MapEntries.{says_entry}
 use Rattle.reflect_declarations.specs.Declarations.{Declaration, of_message}
-use Rattle.reflect_names.specs.Faults.{Fault}
+use Rattle.reflect_faults.specs.Faults.{Fault}
 use Rattle.reflect_names.specs.Names.{Places}
 use Rattle.reflect_references.specs.Meanings.{rest_behind}
 use Rattle.reflect_rules.specs.MapEntries.{has_entry_shape}

@@ -10,7 +10,7 @@ use Rattle.reflect_scope.specs.declared.definition.Definition.{Definition}
 use Rattle.reflect_scope.specs.declared.seen.Links.{Links}
 use Rattle.reflect_declarations.specs.Batches.{batch_declarations}
 use Rattle.reflect_declarations.specs.declared.offsets.Offsets.{Offsets}
-use Rattle.reflect_names.specs.Faults.{Fault, batch_places}
+use Rattle.reflect_faults.specs.Faults.{Fault, batch_places}
 use Rattle.reflect_scope.specs.FileIndexes.{Indexes, indexes_of, link_view}
 use Rattle.reflect_names.specs.FileNames.{with_files}
 use Rattle.reflect_names.specs.ImportedFiles.{links_to}

@@ -3,7 +3,7 @@
 ghost use Rattle.std.specs.Prelude.{◌≡◌, ◌⊎◌, ◌∷◌, [], true, false, OnOk, OnErr, IfErr, IsErrAnd, fold, length, map};
 ghost use Rattle.descriptor_records.specs.Content.{file_view};
 ghost use Rattle.reflect_scope.specs.FileIndexes.{indexes_of};
-ghost use Rattle.reflect_names.specs.Faults.{another};
+ghost use Rattle.reflect_faults.specs.Faults.{another};
 ghost use Rattle.reflect_known.specs.GivenNames.{names_of_file};
 ghost use Rattle.reflect_tables.specs.Types.{PoolType, IsSettled};
 ghost use Rattle.reflect_growth.specs.Cut.{cut_to};

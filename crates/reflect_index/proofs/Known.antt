@@ -10,7 +10,7 @@ use Rattle.reflect_declarations.specs.Tree.{text_of}
 use Rattle.reflect_declarations.specs.declared.offsets.Offsets.{Offsets}
 use Rattle.reflect_declarations.specs.Declarations.{Declaration, Body, of_file, of_message, of_field, of_oneof, of_enum, of_enum_value, of_service, of_method, of_extension}
 use Rattle.reflect_scope.specs.Known.{Known, declared, is_taken, is_package, may_repeat}
-use Rattle.reflect_names.specs.Faults.{Fault}
+use Rattle.reflect_faults.specs.Faults.{Fault}
 use Rattle.reflect_known.specs.KnownNames.{named, packages, package_of, known_after, known_behind}
 use Rattle.reflect_names.specs.Names.{Places, name_faults, faults_at}
 use Rattle.reflect_names.specs.NamePass.{faults_along}

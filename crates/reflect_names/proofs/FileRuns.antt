@@ -5,12 +5,12 @@ use Rattle.std.specs.Map.{update}
 use Rattle.std.specs.Cmp.Lexicographic.{bytes_decides}
 use Rattle.std.proofs.lemmas.Option.{same_Some}
 use Rattle.descriptor_records.specs.declared.file.FileDescriptorProto.{FileDescriptorProto}
-use Rattle.reflect_names.specs.Faults.{Adds, place_at}
-use Rattle.reflect_names.specs.declared.faults.Faults.{Faults}
+use Rattle.reflect_faults.specs.Faults.{Adds, place_at}
+use Rattle.reflect_faults.specs.declared.faults.Faults.{Faults}
 use Rattle.reflect_names.specs.Names.{Places}
 use Rattle.reflect_scope.specs.FileIndexes.{Indexes, KeepsIndexes}
 use Rattle.reflect_names.specs.FileNames.{file_faults, with_file, with_files, files_faults}
-use Rattle.reflect_names.proofs.Added.{adds_on, same_places}
+use Rattle.reflect_faults.proofs.Added.{adds_on, same_places}
 
 pub with_new : (known : Indexes) (i : ℕ) (s : String Global) → is_some (known (string_bytes s)) ≡ false → with_file known i (Some s) ≡ update bytes_eq known (string_bytes s) (Some i)
 with_new known i s new = rw new refl

@@ -1,5 +1,3 @@
-pub mod Added
-pub mod SpanRuns
 pub mod Declared
 pub mod Packages
 pub mod Found
@@ -7,6 +5,4 @@ pub mod NameRuns
 pub mod ReferenceRuns
 pub mod FileRuns
 pub mod ImportRuns
-pub mod Lines
-pub mod LinesBack
 pub mod Numbered

@@ -5,12 +5,12 @@ use Rattle.std.specs.BTreeMap.{get_by_text}
 use Rattle.reflect_declarations.specs.Declarations.{Declaration, Runs}
 use Rattle.reflect_declarations.specs.Batches.{KeptBy}
 use Rattle.reflect_scope.specs.Known.{known_of, kept_first, AllBelow}
-use Rattle.reflect_names.specs.Faults.{Adds, place_at}
+use Rattle.reflect_faults.specs.Faults.{Adds, place_at}
 use Rattle.reflect_known.specs.KnownNames.{known_behind}
 use Rattle.reflect_names.specs.NamePass.{faults_along}
 use Rattle.reflect_names.specs.NameSteps.{AddsName, KeepsNames, KeepsFrom}
 use Rattle.reflect_names.specs.declared.name_visitor.NameVisitor.{NameVisitor}
-use Rattle.reflect_names.proofs.Added.{adds_on, adds_none, same_places}
+use Rattle.reflect_faults.proofs.Added.{adds_on, adds_none, same_places}
 
 pub record Ran (s : NameVisitor) (ds : List Declaration) (t : NameVisitor) : Type 0 where
   pub known : known_of t.names ≡ known_behind (known_of s.names) ds

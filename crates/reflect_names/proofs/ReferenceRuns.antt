@@ -12,14 +12,14 @@ use Rattle.reflect_declarations.specs.Batches.{batch_declarations, KeptBy}
 use Rattle.reflect_declarations.specs.Tree.{text_of, Message, message, Messages, no_messages, more_messages}
 use Rattle.reflect_declarations.specs.Declarations.{Declaration, Body, of_file, of_message, of_field, of_oneof, of_enum, of_enum_value, of_service, of_method, of_extension, Runs, each, entry, one_field, one_oneof, one_value, one_enum, one_method, one_service, one_extension, tree_declarations, trees_declarations, trees_of, past_message, past_tree, past_trees, past_file, file_declarations}
 use Rattle.reflect_walk.proofs.Walks.{runs_split}
-use Rattle.reflect_names.specs.Faults.{Adds, place_at}
+use Rattle.reflect_faults.specs.Faults.{Adds, place_at}
 use Rattle.reflect_scope.specs.Known.{known_of}
 use Rattle.reflect_names.specs.Names.{Places}
 use Rattle.reflect_names.specs.References.{View, targets_of, reference_faults_at}
 use Rattle.reflect_names.specs.ReferencePass.{AreSeen, SeeNoOthers, views_of, targets_along, reference_faults_along}
 use Rattle.reflect_names.specs.ReferenceSteps.{Refers, Finds, Looks, ResolvesFiles, Stays, view_of, target_of}
 use Rattle.reflect_names.specs.declared.resolve_visitor.ResolveVisitor.{ResolveVisitor}
-use Rattle.reflect_names.proofs.Added.{adds_none, same_places}
+use Rattle.reflect_faults.proofs.Added.{adds_none, same_places}
 use Rattle.reflect_names.proofs.Found.{finds_on}
 
 abbrev is_file : Body → Bool

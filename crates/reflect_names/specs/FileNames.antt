@@ -5,7 +5,7 @@ use Rattle.std.specs.Map.{update}
 use Rattle.std.specs.Str.{bytes_eq}
 use Rattle.descriptor_records.specs.declared.file.FileDescriptorProto.{FileDescriptorProto}
 use Rattle.reflect_scope.specs.FileIndexes.{Indexes}
-use Rattle.reflect_names.specs.Faults.{Fault, duplicate_file, missing}
+use Rattle.reflect_faults.specs.Faults.{Fault, duplicate_file, missing}
 use Rattle.reflect_names.specs.Names.{Places}
 
 -- a file without a name, or with that of an earlier one

@@ -1,8 +1,3 @@
-pub mod Spans
-pub mod SourceBytes
-pub mod Faults
-pub mod FaultPlaces
-pub mod FaultTexts
 pub mod Names
 pub mod NameSteps
 pub mod References

@@ -2,7 +2,7 @@
 use Rattle.std.specs.Prelude.{ℕ, List, [], ◌∷◌, ◌++◌, Option}
 use Rattle.reflect_declarations.specs.Declarations.{Declaration}
 use Rattle.reflect_scope.specs.Known.{Known}
-use Rattle.reflect_names.specs.Faults.{Fault}
+use Rattle.reflect_faults.specs.Faults.{Fault}
 use Rattle.reflect_known.specs.KnownNames.{known_after}
 use Rattle.reflect_names.specs.Names.{Places, faults_at}
 

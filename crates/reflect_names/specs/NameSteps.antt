@@ -4,7 +4,7 @@ use Rattle.std.proofs.Common.{◌∙◌}
 use Rattle.std.specs.BTreeMap.{get_by_text}
 use Rattle.reflect_declarations.specs.Declarations.{Declaration}
 use Rattle.reflect_scope.specs.Known.{Known, known_of, KeepsFirst, AllBelow}
-use Rattle.reflect_names.specs.Faults.{Adds, place_at}
+use Rattle.reflect_faults.specs.Faults.{Adds, place_at}
 use Rattle.reflect_known.specs.KnownNames.{known_after}
 use Rattle.reflect_names.specs.Names.{faults_at}
 use Rattle.reflect_names.specs.declared.name_visitor.NameVisitor.{NameVisitor}

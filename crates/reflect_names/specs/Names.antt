@@ -15,7 +15,7 @@ use Rattle.reflect_declarations.specs.Tree.{text_of}
 use Rattle.reflect_declarations.specs.Declarations.{Declaration, of_file, of_message, of_field, of_oneof, of_enum, of_enum_value, of_service, of_method, of_extension, each, entry}
 use Rattle.reflect_scope.specs.Known.{Known, declared, is_taken}
 use Rattle.reflect_known.specs.KnownNames.{definition_of, package_of}
-use Rattle.reflect_names.specs.Faults.{Place, Fault, file_not_found, duplicate_name, unknown_syntax, missing, bad_import_index}
+use Rattle.reflect_faults.specs.Faults.{Place, Fault, file_not_found, duplicate_name, unknown_syntax, missing, bad_import_index}
 
 -- the places of one file
 abbrev pub Places : Type 0

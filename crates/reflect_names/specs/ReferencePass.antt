@@ -6,7 +6,7 @@ use Rattle.reflect_scope.specs.declared.seen.Links.{Links}
 use Rattle.reflect_declarations.specs.Batches.{batch_declarations}
 use Rattle.reflect_declarations.specs.Declarations.{Declaration}
 use Rattle.reflect_declarations.specs.declared.offsets.Offsets.{Offsets}
-use Rattle.reflect_names.specs.Faults.{Fault}
+use Rattle.reflect_faults.specs.Faults.{Fault}
 use Rattle.reflect_scope.specs.Known.{Known}
 use Rattle.reflect_names.specs.Names.{Places}
 use Rattle.reflect_names.specs.References.{View, Target, targets_of, reference_faults_at}

@@ -7,7 +7,7 @@ use Rattle.reflect_scope.specs.Sees.{Sees}
 use Rattle.reflect_declarations.specs.declared.offsets.Offsets.{Offsets}
 use Rattle.reflect_declarations.specs.Declarations.{Declaration, of_file}
 use Rattle.reflect_scope.specs.Known.{known_of}
-use Rattle.reflect_names.specs.Faults.{Fault, Adds, place_at}
+use Rattle.reflect_faults.specs.Faults.{Fault, Adds, place_at}
 use Rattle.reflect_names.specs.References.{View, Target, targets_of, reference_faults_at}
 use Rattle.reflect_names.specs.ReferencePass.{BatchReferences}
 use Rattle.reflect_names.specs.declared.resolve_visitor.Reference.{Reference}

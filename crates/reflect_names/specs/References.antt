@@ -12,7 +12,7 @@ use Rattle.reflect_scope.specs.Means.{Meaning, means, not_found, wrong_kind, sha
 use Rattle.reflect_scope.specs.Words.{wanted_words}
 use Rattle.reflect_declarations.specs.Declarations.{Declaration, of_file, of_message, of_field, of_oneof, of_enum, of_enum_value, of_service, of_method, of_extension}
 use Rattle.reflect_scope.specs.Known.{Known}
-use Rattle.reflect_names.specs.Faults.{Place, Fault, name_not_found, name_shadowed, invalid_type}
+use Rattle.reflect_faults.specs.Faults.{Place, Fault, name_not_found, name_shadowed, invalid_type}
 use Rattle.reflect_names.specs.Names.{Places}
 
 -- a full name behind a dot, and what is defined there

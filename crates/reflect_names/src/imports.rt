@@ -2,7 +2,7 @@ ghost use Rattle.std.specs.Prelude.{◌≡◌, ◌<◌, ◌≤◌, ◌+◌, ◌^
 ghost use Rattle.std.specs.List.{cons_option, filter_map};
 ghost use Rattle.std.specs.BTreeMap.{get_by_text};
 ghost use Rattle.reflect_declarations.specs.Declarations.{each};
-ghost use Rattle.reflect_names.specs.Faults.{Adds, place_at, duplicate_file};
+ghost use Rattle.reflect_faults.specs.Faults.{Adds, place_at, duplicate_file};
 ghost use Rattle.reflect_scope.specs.FileIndexes.{indexes_of, KeepsIndexes};
 ghost use Rattle.reflect_names.specs.FileNames.{file_faults, with_file, with_files, files_faults};
 ghost use Rattle.reflect_names.specs.ImportedFiles.{file_of, import_at as import_file, links_to};
@@ -11,9 +11,8 @@ ghost use Rattle.reflect_names.specs.Names.{import_fault, public_fault, import_f
 ghost use Rattle.reflect_scope.specs.FileIndexes.{is_index as is_index_of};
 ghost use Rattle.reflect_walk.specs.declared.visit_error.VisitError.TheVariants.{TooMany, Memory};
 
-use crate::error::DescriptorErrorKind;
-use crate::faults::Faults;
 use descriptor_records::{FileDescriptorProto, tag};
+use reflect_faults::{DescriptorErrorKind, Faults};
 use reflect_scope::{FileIndex, Links};
 use reflect_walk::{VisitError, entry_path};
 use std::alloc::{AllocError, Global};

@@ -2,22 +2,15 @@
 //! each declaration in order, and each refusal lists every fault that is true.
 #![tactic(auto)]
 
-mod error;
-mod faults;
 mod imports;
-mod label;
-pub mod laws;
 mod name_visitor;
 mod names;
 mod required;
 mod resolve_visitor;
-mod spans;
 
-pub use error::DescriptorErrorKind;
-pub use faults::Faults;
 pub use imports::{is_index, links_of, name_files};
-pub use label::{Label, SourceSpan};
 pub use name_visitor::NameVisitor;
+pub use reflect_faults::{DescriptorErrorKind, Faults, Label, SourceSpan};
 pub use reflect_scope::{
     Definition, DefinitionKind, Links, ResolveNameError, ResolveNameFilter, Resolved, SeenFiles,
     resolve_name,

@@ -1,7 +1,6 @@
 ghost use Rattle.std.specs.Prelude.{◌≡◌, OnOk, IfOk, length};
 ghost use Rattle.std.specs.BTreeMap.{get_by_text};
 
-use crate::faults::Faults;
 use crate::imports::check_imports;
 use crate::names::{check_syntax, declare_named, declare_package};
 use crate::required::{
@@ -13,6 +12,7 @@ use descriptor_records::{
     text_of,
 };
 use name_table::NameTable;
+use reflect_faults::Faults;
 use reflect_scope::{
     Definition, DefinitionKind, EnumIndex, EnumValueIndex, ExtensionIndex, FieldIndex, FileIndex,
     MessageIndex, MethodIndex, OneofIndex, ServiceIndex,
@@ -37,7 +37,7 @@ pub struct NameVisitor<'a> {
 impl<'a> NameVisitor<'a> {
     ghost use Rattle.reflect_declarations.specs.Batches.{batch_declarations, past_files};
     ghost use Rattle.reflect_scope.specs.Known.{known_of};
-    ghost use Rattle.reflect_names.specs.Faults.{Adds, place_at};
+    ghost use Rattle.reflect_faults.specs.Faults.{Adds, place_at};
     ghost use Rattle.reflect_known.specs.KnownNames.{known_behind};
     ghost use Rattle.reflect_names.specs.NamePass.{faults_along};
     ghost use Rattle.reflect_names.specs.NameSteps.{KeepsFrom};

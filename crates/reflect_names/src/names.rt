@@ -1,16 +1,15 @@
 ghost use Rattle.std.specs.Prelude.{◌≡◌, ℕ, ◌<◌, ◌≤◌, OnOk, [], pos, is_some};
 ghost use Rattle.reflect_scope.specs.Means.{scopes};
 ghost use Rattle.reflect_scope.specs.Known.{known_of, declared, may_repeat as repeats};
-ghost use Rattle.reflect_names.specs.Faults.{Adds, place_at};
+ghost use Rattle.reflect_faults.specs.Faults.{Adds, place_at};
 ghost use Rattle.reflect_known.specs.KnownNames.{named, packages, package_of};
 ghost use Rattle.reflect_names.specs.Names.{taken, name_faults, package_faults, syntax_faults};
 ghost use Rattle.reflect_names.specs.NameSteps.{KeepsKnown};
 
-use crate::error::DescriptorErrorKind;
-use crate::faults::Faults;
 use crate::required::require;
 use descriptor_records::tag;
 use name_table::NameTable;
+use reflect_faults::{DescriptorErrorKind, Faults};
 use reflect_scope::{Definition, DefinitionKind, FileIndex, outer_of};
 use std::alloc::{AllocError, Global};
 

@@ -1,16 +1,15 @@
 ghost use Rattle.std.specs.Prelude.{◌≡◌, OnOk, pos, Some, is_some};
 ghost use Rattle.reflect_declarations.specs.Tree.{parts_of};
 ghost use Rattle.reflect_declarations.specs.Declarations.{each, entry};
-ghost use Rattle.reflect_names.specs.Faults.{Adds, place_at};
+ghost use Rattle.reflect_faults.specs.Faults.{Adds, place_at};
 ghost use Rattle.reflect_names.specs.Names.{lacks, is_named_type as names_a_type, field_faults, method_faults, bound_faults, extension_range_faults, reserved_range_faults, enum_range_faults};
 ghost use Rattle.std.specs.Prelude.{◌++◌};
 
-use crate::error::DescriptorErrorKind;
-use crate::faults::Faults;
 use descriptor_records::{
     DescriptorProto, EnumReservedRange, ExtensionRange, FieldDescriptorProto, FieldType,
     MethodDescriptorProto, ReservedRange, tag,
 };
+use reflect_faults::{DescriptorErrorKind, Faults};
 use reflect_scope::FileIndex;
 use reflect_walk::{VisitError, entry_path};
 use std::alloc::{AllocError, Global};

@@ -1,14 +1,13 @@
 ghost use Rattle.std.specs.Prelude.{◌≡◌, ◌∷◌, ◌++◌, [], IfOk, OnOk, Err, None, string_bytes};
 ghost use Rattle.reflect_names.specs.References.{is_in as is_number_in, is_type_of as is_type_number_of, suits as is_suited};
 
-use crate::error::DescriptorErrorKind;
-use crate::faults::Faults;
 use descriptor_records::{
     DescriptorProto, EnumDescriptorProto, EnumValueDescriptorProto, FieldDescriptorProto,
     FieldType, FileDescriptorProto, Label, MethodDescriptorProto, OneofDescriptorProto,
     ServiceDescriptorProto, tag,
 };
 use name_table::NameTable;
+use reflect_faults::{DescriptorErrorKind, Faults};
 use reflect_scope::{
     Definition, DefinitionKind, EnumIndex, EnumValueIndex, ExtensionIndex, FieldIndex, FileIndex,
     Links, MessageIndex, MethodIndex, OneofIndex, ResolveNameError, ResolveNameFilter, SeenFiles,
@@ -88,7 +87,7 @@ fn dotted(alloc: Global, full_name: &str) -> Result<String, AllocError>
 
 impl<'a> ResolveVisitor<'a> {
     ghost use Rattle.reflect_scope.specs.Means.{Meaning, Answers};
-    ghost use Rattle.reflect_names.specs.Faults.{place_at, invalid_type};
+    ghost use Rattle.reflect_faults.specs.Faults.{place_at, invalid_type};
     ghost use Rattle.reflect_names.specs.References.{meaning_of, targets, unmet, kind_meant, name_targets, reference_faults, mismatch, label_faults, type_faults, type_name_faults, field_reference_faults};
     ghost use Rattle.reflect_names.specs.ReferenceSteps.{Finds, IsSame, ResolvesFiles, Stays, view_of, target_of};
     ghost use Rattle.reflect_declarations.specs.Batches.{past_files};

@@ -6,9 +6,9 @@ use Rattle.std.specs.Cmp.Lexicographic.{pointwise, lists_ties}
 use Rattle.std.specs.Option.{option_or}
 use Rattle.descriptor_records.specs.declared.source_info.Location.{Location}
 use Rattle.descriptor_records.specs.declared.file.FileDescriptorProto.{FileDescriptorProto}
-use Rattle.reflect_names.specs.Faults.{Place}
-use Rattle.reflect_names.specs.Spans.{same_path, span_among, span_of}
-use Rattle.reflect_names.specs.declared.label.SourceSpan.{SourceSpan}
+use Rattle.reflect_faults.specs.Faults.{Place}
+use Rattle.reflect_faults.specs.Spans.{same_path, span_among, span_of}
+use Rattle.reflect_faults.specs.declared.label.SourceSpan.{SourceSpan}
 use Rattle.option_parts.specs.OptionTypes.{CanRead}
 use Rattle.option_parts.specs.Places.{IsPlaceIn, StandsFrom}
 use Rattle.option_parts.specs.declared.option_error.OptionError.{OptionError}

@@ -12,7 +12,7 @@ use Rattle.std.specs.Map.{lookup}
 use Rattle.std.specs.Option.{option_or}
 use Rattle.std.specs.Ordering.{match_ordering}
 use Rattle.option_parts.specs.Moves.{targets_of}
-use Rattle.reflect_names.specs.Spans.{same_path}
+use Rattle.reflect_faults.specs.Spans.{same_path}
 use Rattle.reflect_options.specs.Settling.{Move, moves_from, target_in, written_path}
 use Rattle.reflect_options.specs.Visiting.{Moved, MovesMore, MovesNothing}
 

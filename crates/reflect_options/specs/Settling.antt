@@ -15,8 +15,8 @@ use Rattle.option_setter.specs.declared.option_setter.NameScope.{NameScope}
 use Rattle.reflect_growth.specs.Put.{edited}
 use Rattle.reflect_growth.specs.declared.settle.Edit.{Edit}
 use Rattle.reflect_growth.specs.declared.settle.Edit.TheVariants as edits
-use Rattle.reflect_names.specs.Faults.{Place}
-use Rattle.reflect_names.specs.Spans.{locations, same_path}
+use Rattle.reflect_faults.specs.Faults.{Place}
+use Rattle.reflect_faults.specs.Spans.{locations, same_path}
 use Rattle.reflect_pool.specs.Imports.{imported_places, place_named}
 use Rattle.reflect_scope.specs.FileIndexes.{link_view}
 use Rattle.reflect_scope.specs.Seen.{tells}

@@ -5,7 +5,7 @@ ghost use Rattle.reflect_declarations.specs.Declarations.{Runs, each, entry};
 ghost use Rattle.reflect_declarations.specs.Tree.{text_of};
 ghost use Rattle.reflect_growth.specs.declared.settle.Edit.{Edit};
 ghost use Rattle.reflect_growth.specs.declared.settle.Edit.TheVariants as edits;
-ghost use Rattle.reflect_names.specs.Spans.{locations};
+ghost use Rattle.reflect_faults.specs.Spans.{locations};
 ghost use Rattle.reflect_options.specs.Entities.{range_at};
 ghost use Rattle.reflect_options.specs.Settled.{lists_of};
 ghost use Rattle.reflect_options.specs.Settling.{fault_path, moves_from, options_path, written_path};

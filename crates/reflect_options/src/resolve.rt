@@ -2,8 +2,8 @@ ghost use Rattle.std.specs.Prelude.{◌≡◌, ◌++◌, List, Some, OnErr, OnOk
 ghost use Rattle.reflect_growth.specs.declared.settle.Edit.{Edit};
 ghost use Rattle.reflect_growth.specs.Settled.{bare_of};
 ghost use Rattle.reflect_tables.specs.Types.{PoolType, IsSettled};
-ghost use Rattle.reflect_names.specs.Faults.{Place, place_of};
-ghost use Rattle.reflect_names.specs.Spans.{span_among};
+ghost use Rattle.reflect_faults.specs.Faults.{Place, place_of};
+ghost use Rattle.reflect_faults.specs.Spans.{span_among};
 ghost use Rattle.option_parts.specs.OptionTypes.{CanRead};
 ghost use Rattle.option_parts.specs.Places.{option_place, IsPlaceIn, StandsFrom};
 ghost use Rattle.option_parts.specs.declared.option_scope.OptionScope.{OptionScope};

@@ -4,9 +4,9 @@ use Rattle.std.proofs.Math.Path.{fun_ext}
 use Rattle.std.proofs.lemmas.List.{take_more, append-nil}
 use Rattle.std.proofs.lemmas.List.Folds.{list_any-append}
 use Rattle.std.specs.List.{list_any}
-use Rattle.reflect_names.specs.Faults.{Fault, Place, Adds, place_at}
-use Rattle.reflect_names.specs.declared.faults.Faults.{Faults}
-use Rattle.reflect_names.proofs.Added.{adds_on, same_places}
+use Rattle.reflect_faults.specs.Faults.{Fault, Place, Adds, place_at}
+use Rattle.reflect_faults.specs.declared.faults.Faults.{Faults}
+use Rattle.reflect_faults.proofs.Added.{adds_on, same_places}
 use Rattle.reflect_tables.specs.declared.stored.StoredExtension.{StoredExtension}
 use Rattle.reflect_rules.specs.TypesSay.{TypesSay}
 use Rattle.reflect_tables.specs.ExtensionNumbers.{KeyType}

@@ -6,7 +6,7 @@ use Rattle.descriptor_records.specs.declared.file.FileDescriptorProto.{FileDescr
 use Rattle.reflect_scope.specs.declared.seen.Links.{Links}
 use Rattle.reflect_declarations.specs.Batches.{batch_declarations}
 use Rattle.reflect_declarations.specs.declared.offsets.Offsets.{Offsets}
-use Rattle.reflect_names.specs.Faults.{Fault, Adds, batch_places, list_of, place_at}
+use Rattle.reflect_faults.specs.Faults.{Fault, Adds, batch_places, list_of, place_at}
 use Rattle.reflect_scope.specs.FileIndexes.{Indexes}
 use Rattle.reflect_names.specs.FileNames.{with_files, files_faults}
 use Rattle.reflect_scope.specs.Known.{Known, known_of}
@@ -14,10 +14,10 @@ use Rattle.reflect_names.specs.NamePass.{faults_along}
 use Rattle.reflect_names.specs.Names.{Places}
 use Rattle.reflect_names.specs.ReferencePass.{BatchReferences}
 use Rattle.reflect_names.specs.ReferenceSteps.{ResolvesFiles, target_of}
-use Rattle.reflect_names.specs.declared.faults.Faults.{Faults}
+use Rattle.reflect_faults.specs.declared.faults.Faults.{Faults}
 use Rattle.reflect_names.specs.declared.resolve_visitor.Reference.{Reference}
 use Rattle.reflect_names.specs.declared.resolve_visitor.ResolveVisitor.{ResolveVisitor}
-use Rattle.reflect_names.proofs.Added.{adds_on, same_places}
+use Rattle.reflect_faults.proofs.Added.{adds_on, same_places}
 use Rattle.reflect_passes.specs.Errors.{faults_of, ListsFaults}
 use Rattle.reflect_passes.specs.NameFaults.{name_faults}
 use Rattle.reflect_passes.specs.declared.error.DescriptorError.{DescriptorError}

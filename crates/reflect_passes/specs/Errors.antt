@@ -8,11 +8,11 @@ use Rattle.std.specs.Slice.Iter.{iter_steps}
 use Rattle.std.specs.declared.iter.Chain.{Chain}
 use Rattle.std.specs.declared.iter.Once.{Once}
 use Rattle.std.specs.declared.slice.Iter.{Iter}
-use Rattle.reflect_names.specs.FaultPlaces.{label_of, located_of, moved}
-use Rattle.reflect_names.specs.Faults.{Fault, Place, fault_view, place_of_fault, another}
-use Rattle.reflect_names.specs.declared.label.SourceSpan.{SourceSpan}
-use Rattle.reflect_names.specs.declared.error.DescriptorErrorKind.{DescriptorErrorKind}
-use Rattle.reflect_names.specs.declared.error.DescriptorErrorKind.TheVariants as kind
+use Rattle.reflect_faults.specs.FaultPlaces.{label_of, located_of, moved}
+use Rattle.reflect_faults.specs.Faults.{Fault, Place, fault_view, place_of_fault, another}
+use Rattle.reflect_faults.specs.declared.label.SourceSpan.{SourceSpan}
+use Rattle.reflect_faults.specs.declared.error.DescriptorErrorKind.{DescriptorErrorKind}
+use Rattle.reflect_faults.specs.declared.error.DescriptorErrorKind.TheVariants as kind
 use Rattle.reflect_passes.specs.declared.error.DescriptorError.{DescriptorError}
 
 abbrev pub faults_of : DescriptorError → List Fault

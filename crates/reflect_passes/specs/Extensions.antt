@@ -3,7 +3,7 @@ use Rattle.std.specs.Prelude.{◌+◌, ℕ, ℤ, pos, List, [], ◌∷◌, ◌++
 use Rattle.std.specs.BTreeMap.{BTreeMap, get}
 use Rattle.std.specs.List.{list_any}
 use Rattle.std.specs.Int.{w32, cast_signed}
-use Rattle.reflect_names.specs.Faults.{Fault, Place, duplicate_extension}
+use Rattle.reflect_faults.specs.Faults.{Fault, Place, duplicate_extension}
 use Rattle.reflect_tables.specs.declared.stored.StoredExtension.{StoredExtension}
 use Rattle.reflect_tables.specs.ExtensionNumbers.{KeyType, key_cmp, Numbers}
 use Rattle.reflect_rules.specs.TypesSay.{TypesSay}

@@ -4,7 +4,7 @@ use Rattle.descriptor_records.specs.declared.file.FileDescriptorProto.{FileDescr
 use Rattle.reflect_scope.specs.declared.seen.Links.{Links}
 use Rattle.reflect_declarations.specs.Batches.{batch_declarations}
 use Rattle.reflect_declarations.specs.declared.offsets.Offsets.{Offsets}
-use Rattle.reflect_names.specs.Faults.{Fault, batch_places}
+use Rattle.reflect_faults.specs.Faults.{Fault, batch_places}
 use Rattle.reflect_scope.specs.FileIndexes.{Indexes}
 use Rattle.reflect_names.specs.FileNames.{with_files, files_faults}
 use Rattle.reflect_scope.specs.Known.{Known}

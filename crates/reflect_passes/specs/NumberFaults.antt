@@ -2,7 +2,7 @@
 use Rattle.std.specs.Prelude.{ℕ, ℤ, List, Bool}
 use Rattle.descriptor_records.specs.declared.file.FileDescriptorProto.{FileDescriptorProto}
 use Rattle.reflect_declarations.specs.declared.offsets.Offsets.{Offsets}
-use Rattle.reflect_names.specs.Faults.{Fault, Place}
+use Rattle.reflect_faults.specs.Faults.{Fault, Place}
 use Rattle.reflect_names.specs.declared.resolve_visitor.Reference.{Reference}
 use Rattle.reflect_rules.specs.RulePass.{BatchFaults}
 use Rattle.reflect_tables.specs.ExtensionNumbers.{KeyType}

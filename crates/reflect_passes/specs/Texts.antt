@@ -2,8 +2,8 @@
 use Rattle.std.specs.Prelude.{ℕ, ◌+◌, ◌^◌, ◌&&◌, if◌then◌else◌, nat_lt, List, [], ◌++◌, Option, None, Some, option_map, codes}
 use Rattle.std.specs.Fmt.{decimal}
 use Rattle.std.specs.Option.{option_and_then}
-use Rattle.reflect_names.specs.FaultTexts.{said}
-use Rattle.reflect_names.specs.declared.label.SourceSpan.{SourceSpan}
+use Rattle.reflect_faults.specs.FaultTexts.{said}
+use Rattle.reflect_faults.specs.declared.label.SourceSpan.{SourceSpan}
 use Rattle.reflect_passes.specs.Errors.{first_place, first_span}
 use Rattle.reflect_passes.specs.declared.error.DescriptorError.{DescriptorError}
 

@@ -1,8 +1,8 @@
 ghost use Rattle.std.specs.Prelude.{◌≡◌, ◌∷◌, [], map, option_map, IfSome, IfNone, Some};
 ghost use Rattle.std.specs.Fmt.{WritesOnOk};
 ghost use Rattle.std.specs.Option.{option_and_then};
-ghost use Rattle.reflect_names.specs.FaultPlaces.{label_of, located_of, moved};
-ghost use Rattle.reflect_names.specs.FaultTexts.{said};
+ghost use Rattle.reflect_faults.specs.FaultPlaces.{label_of, located_of, moved};
+ghost use Rattle.reflect_faults.specs.FaultTexts.{said};
 ghost use Rattle.reflect_passes.specs.Texts.{begins, place_text, told_at};
 
 use reflect_names::{DescriptorErrorKind, Label, VisitError};
@@ -21,7 +21,7 @@ pub struct DescriptorError {
 }
 
 impl DescriptorError {
-    ghost use Rattle.reflect_names.specs.Faults.{fault_view};
+    ghost use Rattle.reflect_faults.specs.Faults.{fault_view};
     ghost use Rattle.reflect_passes.specs.Errors.{
       faults_of,
       first_place,

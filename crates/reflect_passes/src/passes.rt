@@ -2,7 +2,7 @@
 
 ghost use Rattle.std.specs.Prelude.{◌≡◌, ◌∷◌, [], length, map, OnOk, IfOk, IfErr};
 ghost use Rattle.reflect_declarations.specs.Batches.{batch_declarations};
-ghost use Rattle.reflect_names.specs.Faults.{fault_view, list_of, of_walk, another, batch_places};
+ghost use Rattle.reflect_faults.specs.Faults.{fault_view, list_of, of_walk, another, batch_places};
 ghost use Rattle.reflect_scope.specs.FileIndexes.{indexes_of, KeepsIndexes};
 ghost use Rattle.reflect_names.specs.FileNames.{with_files};
 ghost use Rattle.reflect_scope.specs.Known.{known_of};

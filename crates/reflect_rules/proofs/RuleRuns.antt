@@ -4,8 +4,8 @@ use Rattle.std.proofs.Math.Path.{fun_ext}
 use Rattle.std.specs.BTreeMap.{get}
 use Rattle.std.specs.Ordering.{nat_cmp}
 use Rattle.reflect_declarations.specs.Declarations.{Declaration, Runs}
-use Rattle.reflect_names.specs.Faults.{Fault, Adds, place_at}
-use Rattle.reflect_names.proofs.Added.{adds_on, adds_none, same_places}
+use Rattle.reflect_faults.specs.Faults.{Fault, Adds, place_at}
+use Rattle.reflect_faults.proofs.Added.{adds_on, adds_none, same_places}
 use Rattle.reflect_rules.specs.TypesSay.{TypesSay}
 use Rattle.reflect_rules.specs.Walks.{Facts, Place, place_behind}
 use Rattle.reflect_rules.specs.Rules.{Values}

@@ -4,7 +4,7 @@ use Rattle.descriptor_records.specs.declared.enums.EnumDescriptorProto.{EnumDesc
 use Rattle.descriptor_records.specs.declared.enums.EnumValueDescriptorProto.{EnumValueDescriptorProto}
 use Rattle.descriptor_records.specs.declared.options.Options.{Options}
 use Rattle.reflect_declarations.specs.Declarations.{entry}
-use Rattle.reflect_names.specs.Faults.{Fault, empty_enum, duplicate_enum_number, bad_first_value}
+use Rattle.reflect_faults.specs.Faults.{Fault, empty_enum, duplicate_enum_number, bad_first_value}
 use Rattle.reflect_names.specs.Names.{Places}
 use Rattle.reflect_walk.specs.MapEntries.{is_true}
 use Rattle.reflect_rules.specs.MapEntries.{is_equal}

@@ -1,6 +1,6 @@
 -- The rules of the numbers of fields and extensions, and of the oneofs of fields.
 use Rattle.std.specs.Prelude.{ℕ, ℤ, pos, negsuc, List, [], ◌∷◌, ◌++◌, Bool, false, not, ◌&&◌, cond, nat_le, Option, Some, None}
-use Rattle.reflect_names.specs.Faults.{Fault, invalid_number, reserved_number, number_of_extensions, no_extension_number, bad_oneof_index}
+use Rattle.reflect_faults.specs.Faults.{Fault, invalid_number, reserved_number, number_of_extensions, no_extension_number, bad_oneof_index}
 use Rattle.reflect_names.specs.Names.{Places}
 use Rattle.reflect_scope.specs.FileIndexes.{is_index}
 use Rattle.reflect_tables.specs.Ranges.{Range}

@@ -3,7 +3,7 @@ use Rattle.std.specs.Prelude.{ℕ, ℤ, List, [], ◌∷◌, ◌++◌, Bool, fal
 use Rattle.std.specs.List.{list_any}
 use Rattle.std.specs.Ordering.{int_eq}
 use Rattle.reflect_declarations.specs.Declarations.{each, entry}
-use Rattle.reflect_names.specs.Faults.{Fault, Place}
+use Rattle.reflect_faults.specs.Faults.{Fault, Place}
 use Rattle.reflect_names.specs.Names.{Places}
 
 abbrev pub is_number : ℤ → Option ℤ → Bool

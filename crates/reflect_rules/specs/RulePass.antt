@@ -4,7 +4,7 @@ use Rattle.descriptor_records.specs.declared.file.FileDescriptorProto.{FileDescr
 use Rattle.reflect_declarations.specs.declared.offsets.Offsets.{Offsets}
 use Rattle.reflect_declarations.specs.Batches.{batch_declarations}
 use Rattle.reflect_declarations.specs.Declarations.{Declaration}
-use Rattle.reflect_names.specs.Faults.{Fault, batch_places}
+use Rattle.reflect_faults.specs.Faults.{Fault, batch_places}
 use Rattle.reflect_names.specs.Names.{Places}
 use Rattle.reflect_names.specs.declared.resolve_visitor.Reference.{Reference}
 use Rattle.reflect_rules.specs.TypesSay.{TypesSay}

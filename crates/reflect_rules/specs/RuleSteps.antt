@@ -3,7 +3,7 @@ use Rattle.std.specs.Prelude.{◌≡◌, List}
 use Rattle.std.specs.BTreeMap.{get}
 use Rattle.std.specs.Ordering.{nat_cmp}
 use Rattle.reflect_declarations.specs.Declarations.{Declaration}
-use Rattle.reflect_names.specs.Faults.{Fault, Adds, place_at}
+use Rattle.reflect_faults.specs.Faults.{Fault, Adds, place_at}
 use Rattle.reflect_references.specs.Meanings.{rest_behind}
 use Rattle.reflect_rules.specs.TypesSay.{TypesSay}
 use Rattle.reflect_rules.specs.Walks.{Facts, Place, proto3_behind, oneofs_behind}

@@ -6,7 +6,7 @@ use Rattle.reflect_scope.specs.declared.definition.DefinitionKind.{DefinitionKin
 use Rattle.reflect_scope.specs.declared.definition.DefinitionKind.TheVariants as kind
 use Rattle.reflect_declarations.specs.Tree.{MessageParts}
 use Rattle.reflect_declarations.specs.Declarations.{Declaration, of_file, of_message, of_field, of_oneof, of_enum, of_enum_value, of_service, of_method, of_extension}
-use Rattle.reflect_names.specs.Faults.{Fault, duplicate_number, bad_default, bad_map_entry}
+use Rattle.reflect_faults.specs.Faults.{Fault, duplicate_number, bad_default, bad_map_entry}
 use Rattle.reflect_names.specs.Names.{Places}
 use Rattle.reflect_tables.specs.Ranges.{Range, IsRangeOf}
 use Rattle.reflect_rules.specs.TypesSay.{TypesSay}

@@ -1,5 +1,5 @@
 ghost use Rattle.std.specs.Prelude.{IfOk, map};
-ghost use Rattle.reflect_names.specs.Faults.{fault_view};
+ghost use Rattle.reflect_faults.specs.Faults.{fault_view};
 ghost use Rattle.reflect_rules.specs.RulePass.{BatchFaults};
 
 use crate::rule_visitor::RuleVisitor;

@@ -2,7 +2,7 @@
 
 ghost use Rattle.std.specs.Prelude.{◌≡◌, OnOk};
 ghost use Rattle.reflect_declarations.specs.Tree.{parts_of};
-ghost use Rattle.reflect_names.specs.Faults.{Adds, place_at};
+ghost use Rattle.reflect_faults.specs.Faults.{Adds, place_at};
 ghost use Rattle.reflect_rules.specs.Rules.{is_one_map as is_one, message_of, entry_faults, older_faults};
 
 use crate::map_entry::has_entry_shape;

@@ -1,7 +1,7 @@
 //! The rules of enums (protobuf.dev, "Enumerations").
 
 ghost use Rattle.std.specs.Prelude.{◌≡◌, OnOk, IfOk, map, pos};
-ghost use Rattle.reflect_names.specs.Faults.{Adds, place_at, duplicate_enum_number};
+ghost use Rattle.reflect_faults.specs.Faults.{Adds, place_at, duplicate_enum_number};
 ghost use Rattle.reflect_rules.specs.Repeats.{repeat_fault, listed};
 ghost use Rattle.reflect_rules.specs.EnumRules.{allows_aliases as may_alias, alias_faults, first_faults, enum_faults};
 

@@ -3,7 +3,7 @@
 ghost use Rattle.std.specs.Prelude.{◌≡◌, ◌∷◌, ◌++◌, [], OnOk, IfOk, map, pos};
 ghost use Rattle.reflect_declarations.specs.Tree.{parts_of};
 ghost use Rattle.reflect_declarations.specs.Declarations.{entry};
-ghost use Rattle.reflect_names.specs.Faults.{Adds, place_at, place_of, duplicate_number};
+ghost use Rattle.reflect_faults.specs.Faults.{Adds, place_at, place_of, duplicate_number};
 ghost use Rattle.reflect_rules.specs.Numbers.{is_field_number as may_number, number_faults, reserved_faults, kept_faults, outside_faults, oneof_faults};
 ghost use Rattle.reflect_rules.specs.Repeats.{repeats, repeat_fault, listed, repeat_faults};
 

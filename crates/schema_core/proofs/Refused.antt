@@ -17,7 +17,7 @@ use Rattle.protox_parse.specs.declared.error.ParseError.{ParseError}
 use Rattle.protox_parse.specs.declared.error.ParseError.TheVariants as parsed
 use Rattle.protox_tree.specs.declared.error.ParseErrorKind.TheVariants.{FileTooLarge}
 use Rattle.reflect_tables.specs.Types.{PoolType}
-use Rattle.reflect_names.specs.Faults.{place_of}
+use Rattle.reflect_faults.specs.Faults.{place_of}
 use Rattle.reflect_passes.specs.Errors.{is_memory}
 use Rattle.reflect_passes.specs.declared.error.DescriptorError.{DescriptorError}
 use Rattle.reflect_build.specs.Refusals.{AreRefused}

@@ -1,7 +1,7 @@
 -- What is said of refusals by a schema.
 use Rattle.std.specs.Prelude.{ℕ, List, ◌++◌, codes, string_bytes}
 use Rattle.protox_parse.specs.Refusals as source
-use Rattle.reflect_names.specs.FaultTexts as link
+use Rattle.reflect_faults.specs.FaultTexts as link
 use Rattle.reflect_passes.specs.Texts.{place_text}
 use Rattle.reflect_wire.specs.Texts as wire
 use Rattle.option_parts.specs.Texts as option

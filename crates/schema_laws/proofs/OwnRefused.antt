@@ -21,7 +21,7 @@ use Rattle.reflect_build.specs.Accepted.{FaultlessFiles}
 use Rattle.reflect_build.specs.Refusals.{AreTooMany}
 use Rattle.reflect_bytes.specs.Spelled.{SpellsSet}
 use Rattle.reflect_bytes.specs.Written.{pool_bytes}
-use Rattle.reflect_names.specs.Faults.{Place}
+use Rattle.reflect_faults.specs.Faults.{Place}
 use Rattle.reflect_options.specs.Settling.{RefusesFrom}
 use Rattle.reflect_passes.specs.declared.error.DescriptorError.{DescriptorError}
 use Rattle.reflect_pool.specs.Linked.{empty_pool}

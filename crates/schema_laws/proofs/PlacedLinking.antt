@@ -5,7 +5,7 @@ use Rattle.descriptor_records.specs.declared.file.FileDescriptorProto.{FileDescr
 use Rattle.option_parts.specs.TypedOptions.{TypedFiles}
 use Rattle.reflect_build.specs.Refusals.{Faulty, FaultyBatch, FaultyFiles, IsOf, Linking, new_files, with_declared}
 use Rattle.reflect_declarations.specs.Batches.{batch_declarations}
-use Rattle.reflect_names.specs.Faults.{Fault, Place, another, batch_places, fault_view, place_of_fault}
+use Rattle.reflect_faults.specs.Faults.{Fault, Place, another, batch_places, fault_view, place_of_fault}
 use Rattle.reflect_names.specs.ReferencePass.{views_of}
 use Rattle.reflect_passes.specs.Errors.{ListsFaults, faults_of, first_place}
 use Rattle.reflect_passes.specs.Linked.{linked_says}

@@ -14,7 +14,7 @@ use Rattle.reflect_declarations.specs.Declarations.{Body, Declaration, each, ent
 use Rattle.reflect_declarations.specs.declared.offsets.Offsets.{Offsets}
 use Rattle.reflect_declarations.specs.Tree.{text_of}
 use Rattle.reflect_known.specs.KnownNames.{definition_of, known_after, package_of}
-use Rattle.reflect_names.specs.Faults.{Fault, bad_import_index, batch_places, duplicate_file, duplicate_name, file_not_found, missing, unknown_syntax}
+use Rattle.reflect_faults.specs.Faults.{Fault, bad_import_index, batch_places, duplicate_file, duplicate_name, file_not_found, missing, unknown_syntax}
 use Rattle.reflect_names.specs.FileNames.{file_faults, files_faults, with_file, with_files}
 use Rattle.reflect_names.specs.NamePass.{faults_along}
 use Rattle.reflect_names.specs.Names.{Places, bound_faults, enum_range_faults, extension_range_faults, faults_at, field_faults, import_fault, import_faults, is_named_type, lacks, method_faults, name_faults, package_faults, public_fault, reserved_range_faults, syntax_faults, taken}

@@ -8,8 +8,8 @@ use Rattle.descriptor_records.specs.declared.enums.EnumValueDescriptorProto.{Enu
 use Rattle.descriptor_records.specs.declared.field.FieldDescriptorProto.{FieldDescriptorProto}
 use Rattle.reflect_declarations.specs.Declarations.{Body, Declaration, entry, of_enum, of_enum_value, of_extension, of_field, of_file, of_message, of_method, of_oneof, of_service}
 use Rattle.reflect_declarations.specs.Tree.{MessageParts}
-use Rattle.reflect_names.specs.Faults.{Fault, bad_default, bad_first_value, bad_map_entry, bad_oneof_index, duplicate_enum_number, duplicate_extension, duplicate_number, empty_enum, invalid_number, no_extension_number, number_of_extensions, place_of_fault, reserved_number}
-use Rattle.reflect_names.specs.Faults as faults
+use Rattle.reflect_faults.specs.Faults.{Fault, bad_default, bad_first_value, bad_map_entry, bad_oneof_index, duplicate_enum_number, duplicate_extension, duplicate_number, empty_enum, invalid_number, no_extension_number, number_of_extensions, place_of_fault, reserved_number}
+use Rattle.reflect_faults.specs.Faults as faults
 use Rattle.reflect_names.specs.Names.{Places}
 use Rattle.reflect_passes.specs.Extensions.{double_faults, extension_faults, has_key}
 use Rattle.reflect_references.specs.Meanings.{behind, meaning}

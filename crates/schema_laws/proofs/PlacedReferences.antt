@@ -5,7 +5,7 @@ use Rattle.std.specs.Fmt.{signed_decimal}
 use Rattle.std.specs.Prelude.{string_bytes}
 use Rattle.descriptor_records.specs.declared.field.FieldDescriptorProto.{FieldDescriptorProto}
 use Rattle.reflect_declarations.specs.Declarations.{Body, Declaration, of_enum, of_enum_value, of_extension, of_field, of_file, of_message, of_method, of_oneof, of_service}
-use Rattle.reflect_names.specs.Faults.{invalid_type, name_not_found, name_shadowed}
+use Rattle.reflect_faults.specs.Faults.{invalid_type, name_not_found, name_shadowed}
 use Rattle.reflect_names.specs.Names.{Places}
 use Rattle.reflect_names.specs.ReferencePass.{reference_faults_along}
 use Rattle.reflect_names.specs.References.{View, field_reference_faults, is_in, kind_meant, label_faults, meaning_of, mismatch, reference_faults, reference_faults_at, suits, type_faults, type_name_faults, unmet}

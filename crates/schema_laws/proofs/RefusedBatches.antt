@@ -2,9 +2,9 @@
 use Rattle.std.proofs.Common.{◌≡◌, ◌⊎◌, ◌∙◌, inl, inr, List, true, false, refl, sym}
 use Rattle.descriptor_records.specs.Content.{FileContent}
 use Rattle.descriptor_records.specs.declared.file.FileDescriptorProto.{FileDescriptorProto}
-use Rattle.reflect_names.specs.Faults.{another, fault_view}
-use Rattle.reflect_names.specs.declared.error.DescriptorErrorKind.{DescriptorErrorKind}
-use Rattle.reflect_names.specs.declared.error.DescriptorErrorKind.TheVariants as kind
+use Rattle.reflect_faults.specs.Faults.{another, fault_view}
+use Rattle.reflect_faults.specs.declared.error.DescriptorErrorKind.{DescriptorErrorKind}
+use Rattle.reflect_faults.specs.declared.error.DescriptorErrorKind.TheVariants as kind
 use Rattle.reflect_build.specs.Refusals.{AreRefused, new_files}
 use Rattle.reflect_passes.specs.Errors.{is_memory, is_too_many, faults_of}
 use Rattle.reflect_passes.specs.declared.error.DescriptorError.{DescriptorError}

@@ -17,7 +17,7 @@ use Rattle.plain_records.specs.PlainRecords.{ArePlainFiles}
 use Rattle.plain_records.specs.SaidOptions.{SaysAndIsSettled}
 use Rattle.protobuf_model.specs.Values.{Message}
 use Rattle.reflect_build.specs.Accepted.{FaultlessFiles}
-use Rattle.reflect_names.specs.Faults.{Place}
+use Rattle.reflect_faults.specs.Faults.{Place}
 use Rattle.reflect_options.specs.Settled.{IsForbiddenAt, RefusesOptions}
 use Rattle.reflect_options.specs.Settling.{RefusesAtPlace}
 use Rattle.reflect_pool.specs.Linked.{empty_pool}

@@ -1,7 +1,7 @@
 -- Where the faults of files stand that are refused for how they link.
 use Rattle.std.specs.Prelude.{◌≡◌, ℕ, ℤ, List, IfSome}
 use Rattle.descriptor_records.specs.declared.file.FileDescriptorProto.{FileDescriptorProto}
-use Rattle.reflect_names.specs.Faults.{Fault, batch_places, place_of_fault}
+use Rattle.reflect_faults.specs.Faults.{Fault, batch_places, place_of_fault}
 
 -- Of files, the first of which has this index: the fault stands, if anywhere, at a path of one of
 -- them, under its name, and there where the first of its locations for that path says, if it has

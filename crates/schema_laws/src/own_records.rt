@@ -20,7 +20,7 @@ ghost use Rattle.reflect_build.specs.Refusals.{IsOf, Linking, new_files};
 ghost use Rattle.reflect_options.specs.Settling.{RefusesAtPlace, SettlesPool};
 ghost use Rattle.reflect_pool.specs.Linked.{empty_pool};
 ghost use Rattle.reflect_tables.specs.Types.{PoolType};
-ghost use Rattle.reflect_names.specs.Faults.{Place};
+ghost use Rattle.reflect_faults.specs.Faults.{Place};
 ghost use Rattle.reflect_wire.specs.Written.{AreBytes};
 ghost use Rattle.schema_laws.specs.HeldOptions.{HoldsOptions, ReadsAlike};
 ghost use Rattle.settled_view.specs.BuiltBut.{ChangesOptions};

@@ -4,7 +4,7 @@ ghost use Rattle.std.specs.Prelude.{◌≡◌, List, Some};
 ghost use Rattle.descriptor_records.specs.declared.file.FileDescriptorProto.{FileDescriptorProto};
 ghost use Rattle.option_parts.specs.TypedOptions.{TypedFiles};
 ghost use Rattle.reflect_build.specs.Refusals.{IsOf, Linking, new_files};
-ghost use Rattle.reflect_names.specs.Faults.{Place};
+ghost use Rattle.reflect_faults.specs.Faults.{Place};
 ghost use Rattle.reflect_passes.specs.Errors.{faults_of, first_place};
 ghost use Rattle.reflect_passes.specs.declared.error.DescriptorError.{DescriptorError};
 ghost use Rattle.reflect_tables.specs.Types.{PoolType};

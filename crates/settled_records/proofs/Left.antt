@@ -14,7 +14,7 @@ use Rattle.option_setter.specs.declared.option_setter.NameScope.{NameScope}
 use Rattle.reflect_growth.specs.Put.{edited, file_put, path_put, with_at}
 use Rattle.reflect_growth.specs.declared.settle.Edit.{Edit}
 use Rattle.reflect_growth.specs.declared.settle.Edit.TheVariants as edits
-use Rattle.reflect_names.specs.Spans.{locations}
+use Rattle.reflect_faults.specs.Spans.{locations}
 use Rattle.reflect_options.specs.Entities.{Entity, file_entities}
 use Rattle.reflect_options.specs.Settled.{Settles}
 use Rattle.reflect_options.specs.Settling.{IsScopeOf, Move, SettlesAll, SettlesEntity, SettlesFile, SettlesFiles, SettlesIn, SettlesPool, target_in}

@@ -11,7 +11,7 @@ use Rattle.descriptor_records.specs.declared.source_info.SourceCodeInfo.{SourceC
 use Rattle.option_parts.specs.Moves.{EditsLocation, EditsLocations, MovesTo, Targets, place_32}
 use Rattle.reflect_growth.specs.Put.{path_put}
 use Rattle.reflect_growth.specs.declared.settle.Edit.{Edit}
-use Rattle.reflect_names.specs.Spans.{locations}
+use Rattle.reflect_faults.specs.Spans.{locations}
 use Rattle.settled_records.proofs.Changes.{Change, change_of}
 use Rattle.settled_records.proofs.Told.{head_is, tail_is}
 

@@ -9,7 +9,7 @@ use Rattle.option_parts.specs.Moves.{EditsLocation, EditsLocations, Targets}
 use Rattle.option_setter.specs.declared.option_setter.NameScope.{NameScope}
 use Rattle.protobuf_model.proofs.Arranged.{all_append}
 use Rattle.reflect_growth.specs.declared.settle.Edit.{Edit}
-use Rattle.reflect_names.specs.Spans.{locations}
+use Rattle.reflect_faults.specs.Spans.{locations}
 use Rattle.reflect_options.specs.Entities.{Entity, file_entities}
 use Rattle.reflect_options.specs.Settling.{IsScopeOf, Move, SettlesAll, SettlesEntity, SettlesFile, SettlesFiles, SettlesIn, target_in}
 use Rattle.reflect_tables.specs.Types.{PoolType}

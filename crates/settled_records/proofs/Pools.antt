@@ -9,7 +9,7 @@ use Rattle.descriptor_records.specs.declared.file.FileDescriptorProto.{FileDescr
 use Rattle.option_parts.specs.Moves.{EditsLocations}
 use Rattle.reflect_growth.specs.Put.{edited}
 use Rattle.reflect_growth.specs.declared.settle.Edit.{Edit}
-use Rattle.reflect_names.specs.Spans.{locations}
+use Rattle.reflect_faults.specs.Spans.{locations}
 use Rattle.reflect_options.specs.Entities.{file_entities}
 use Rattle.reflect_options.specs.Settling.{SettlesFile, SettlesFiles, SettlesPool, target_in}
 use Rattle.reflect_tables.specs.Types.{PoolType}

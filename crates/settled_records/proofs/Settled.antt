@@ -28,7 +28,7 @@ use Rattle.reflect_growth.specs.Put.{edited, file_put, path_put}
 use Rattle.reflect_growth.specs.declared.settle.Edit.{Edit}
 use Rattle.reflect_growth.specs.declared.settle.Edit.TheVariants as edits
 use Rattle.reflect_message.specs.Names.{DynamicMessage}
-use Rattle.reflect_names.specs.Spans.{locations, same_path}
+use Rattle.reflect_faults.specs.Spans.{locations, same_path}
 use Rattle.reflect_options.specs.Entities.{Entity, file_entities}
 use Rattle.reflect_options.specs.Settled.{SetsAll, Settles}
 use Rattle.reflect_options.specs.Settling.{IsScopeOf, Move, SettlesAll, SettlesEntity, SettlesFile, SettlesFiles, SettlesIn, SettlesPool, moves_from, options_path, target_in}

@@ -9,7 +9,7 @@ use Rattle.option_parts.specs.Moves.{EditsLocation, EditsLocations, MovesTo}
 use Rattle.option_setter.specs.declared.option_setter.NameScope.{NameScope}
 use Rattle.reflect_growth.specs.Put.{edited, file_put, with_at}
 use Rattle.reflect_growth.specs.declared.settle.Edit.{Edit}
-use Rattle.reflect_names.specs.Spans.{locations}
+use Rattle.reflect_faults.specs.Spans.{locations}
 use Rattle.reflect_options.specs.Entities.{Entity, file_entities}
 use Rattle.reflect_options.specs.Settling.{IsScopeOf, Move, SettlesAll, SettlesEntity, SettlesFile, SettlesFiles, SettlesIn, SettlesPool, moves_from, options_path, target_in}
 use Rattle.reflect_tables.specs.Types.{PoolType}

@@ -3,7 +3,7 @@ use Rattle.std.proofs.Common.{◌≡◌, ◌↔◌, inl, inr, List, [], map, ap,
 use Rattle.descriptor_records.specs.Content.{FileContent, file_view}
 use Rattle.descriptor_records.specs.declared.file.FileDescriptorProto.{FileDescriptorProto}
 use Rattle.reflect_build.specs.Refusals.{Linking, with_declared, IsOf, Faulty, FaultyExtensions, FaultyFiles, FaultyNumbers, new_files}
-use Rattle.reflect_names.specs.Faults.{Fault}
+use Rattle.reflect_faults.specs.Faults.{Fault}
 use Rattle.reflect_tables.specs.Types.{PoolType}
 use Rattle.schema_view.specs.Lawful.{IsLawful, Meanings}
 use Rattle.linked_view.specs.Kept.{IsKept}

@@ -8,7 +8,7 @@ ghost use Rattle.reflect_build.specs.Accepted.{FaultlessFiles};
 ghost use Rattle.reflect_build.specs.Refusals.{Faulty, FaultyExtensions, FaultyFiles};
 ghost use Rattle.reflect_build.specs.Refusals.{FaultyNumbers, IsOf, Linking};
 ghost use Rattle.reflect_build.specs.Refusals.{new_files, with_declared};
-ghost use Rattle.reflect_names.specs.Faults.{Fault};
+ghost use Rattle.reflect_faults.specs.Faults.{Fault};
 ghost use Rattle.reflect_pool.specs.Linked.{empty_pool};
 ghost use Rattle.reflect_tables.specs.Types.{PoolType};
 ghost use Rattle.schema_view.specs.Lawful.{IsLawful, Meanings, SameFiles, sources};

@@ -14,7 +14,7 @@ use Rattle.protox_locate.specs.Files.{file_events, is_before}
 use Rattle.protox_locate.specs.Located.{Event, closing, counted, empty, located, located_from, part, place_at, statement}
 use Rattle.protox_parse.specs.Answers.{IsAnswered}
 use Rattle.protox_tree.specs.FileView.{file_view}
-use Rattle.reflect_names.specs.Spans.{locations}
+use Rattle.reflect_faults.specs.Spans.{locations}
 use Rattle.source_laws.specs.Spanned.{HasSpan, IsSpan}
 use Rattle.source_laws.proofs.PlainPlaces.{all_sorted, counted_small, line_before}
 

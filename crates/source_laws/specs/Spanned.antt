@@ -1,8 +1,8 @@
 -- Locations that have a span.
 use Rattle.std.specs.Prelude.{◌≡◌, ◌<◌, ◌^◌, ℤ, List, Some}
 use Rattle.descriptor_records.specs.declared.source_info.Location.{Location}
-use Rattle.reflect_names.specs.Spans.{span_of}
-use Rattle.reflect_names.specs.declared.label.SourceSpan.{SourceSpan}
+use Rattle.reflect_faults.specs.Spans.{span_of}
+use Rattle.reflect_faults.specs.declared.label.SourceSpan.{SourceSpan}
 
 -- its lines and columns are small, so that one more can be counted
 pub record IsSmall (s : SourceSpan) : Type 0 where

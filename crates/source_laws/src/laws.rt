@@ -8,7 +8,7 @@ ghost use Rattle.protox_file.specs.Sources.{Spells};
 ghost use Rattle.protox_lex.specs.Class.{Text};
 ghost use Rattle.protox_parse.specs.Answers.{IsAnswered};
 ghost use Rattle.protox_tree.specs.FileTree.{File};
-ghost use Rattle.reflect_names.specs.Spans.{locations};
+ghost use Rattle.reflect_faults.specs.Spans.{locations};
 ghost use Rattle.schema_view.specs.Plain as names;
 ghost use Rattle.source_laws.specs.Spanned.{HasSpan};
 ghost use Rattle.source_laws.specs.TreeNames.{HasIdentifiers};

@@ -13,7 +13,7 @@ use Rattle.option_parts.specs.declared.option_error.OptionErrorKind.{OptionError
 use Rattle.option_parts.specs.declared.option_scope.OptionScope.{OptionScope}
 use Rattle.option_setter.specs.declared.option_setter.NameScope.{NameScope}
 use Rattle.reflect_growth.specs.declared.settle.Edit.{Edit}
-use Rattle.reflect_names.specs.Faults.{Place}
+use Rattle.reflect_faults.specs.Faults.{Place}
 use Rattle.reflect_options.specs.Entities.{Entity}
 use Rattle.reflect_options.specs.Settling.{IsScopeOf, Move, RefusesAtPlace, RefusesEntity, RefusesFile, RefusesFrom, SettlesAll, SettlesEntity, SettlesFile, SettlesFiles, SettlesIn, SettlesPool}
 use Rattle.reflect_tables.specs.Types.{PoolType}

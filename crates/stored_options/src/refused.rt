@@ -7,7 +7,7 @@ ghost use Rattle.option_parts.specs.OptionTypes.{CanRead};
 ghost use Rattle.option_parts.specs.declared.option_error.OptionErrorKind.{OptionErrorKind};
 ghost use Rattle.option_parts.specs.declared.option_scope.OptionScope.{OptionScope};
 ghost use Rattle.option_setter.specs.declared.option_setter.NameScope.{NameScope};
-ghost use Rattle.reflect_names.specs.Faults.{Place};
+ghost use Rattle.reflect_faults.specs.Faults.{Place};
 ghost use Rattle.reflect_options.specs.Settled.{RefusesOptions, Settles, StayAsTheyAre};
 ghost use Rattle.reflect_options.specs.Settling.{RefusesFrom, SettlesPool};
 ghost use Rattle.reflect_tables.specs.Types.{PoolType};

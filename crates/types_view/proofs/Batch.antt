@@ -17,7 +17,7 @@ use Rattle.reflect_index.specs.Along.{AtHand, Met, along, all_of, before_files, 
 use Rattle.reflect_index.specs.Entries.{DeclaredField, HasKind, Head, IsFieldBy, IsFieldOf, IsHeadOf}
 use Rattle.reflect_index.specs.Grown.{declared_field, list_at, message_head, stored_fields}
 use Rattle.reflect_index.specs.Members.{MarksOneofs}
-use Rattle.reflect_names.specs.Faults.{batch_places}
+use Rattle.reflect_faults.specs.Faults.{batch_places}
 use Rattle.reflect_names.specs.Names.{Places}
 use Rattle.reflect_names.specs.ReferencePass.{views_of}
 use Rattle.reflect_names.specs.References.{View, reference_faults, reference_faults_at, targets_of}

@@ -1,4 +1,4 @@
-use Rattle.reflect_names.specs.Faults.{batch_places}
+use Rattle.reflect_faults.specs.Faults.{batch_places}
 use Rattle.linked_view.proofs.Named.{named_to, named_from}
 use Rattle.linked_view.proofs.laws.names_have_no_fault_where_they_are_apart.Goals as goal
 

@@ -1,4 +1,4 @@
-use Rattle.reflect_names.specs.Faults.{batch_places}
+use Rattle.reflect_faults.specs.Faults.{batch_places}
 use Rattle.reflect_passes.specs.Linked.{linked_values}
 use Rattle.linked_view.specs.Passed.{facts_of, start_of}
 use Rattle.linked_view.proofs.Along.{ruled_to, ruled_from}

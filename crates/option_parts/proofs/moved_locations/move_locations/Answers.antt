@@ -5,7 +5,7 @@ use Rattle.option_parts.proofs.Moves.{edits_all, edits_more, next_place}
 use Rattle.option_parts.proofs.moved_locations.move_locations.Goals.{in-Some-2+in_ok-push, in_default-2}
 use Rattle.option_parts.proofs.moved_locations.move_locations.Goals as goal
 use Rattle.reflect_growth.specs.declared.settle.Edit.TheVariants as edits
-use Rattle.reflect_names.specs.Spans.{locations}
+use Rattle.reflect_faults.specs.Spans.{locations}
 
 pub locations-init : goal.locations-init
 locations-init c = record {

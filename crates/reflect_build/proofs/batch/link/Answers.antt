@@ -14,7 +14,7 @@ use Rattle.reflect_known.specs.KnownNames.{known_behind}
 use Rattle.reflect_names.specs.NameSteps.{KeepsFrom}
 use Rattle.reflect_passes.specs.NameFaults.{name_faults}
 use Rattle.reflect_declarations.specs.Batches.{batch_declarations}
-use Rattle.reflect_names.specs.Faults.{batch_places}
+use Rattle.reflect_faults.specs.Faults.{batch_places}
 use Rattle.reflect_scope.specs.FileIndexes.{Indexes, indexes_of}
 use Rattle.reflect_names.specs.FileNames.{with_files, files_faults}
 use Rattle.reflect_tables.specs.Views.{pool_of}

@@ -6,7 +6,7 @@ use Rattle.reflect_tables.specs.ExtensionNumbers.{numbers_of}
 use Rattle.reflect_passes.specs.Extensions.{with_numbers}
 use Rattle.reflect_pool.specs.Linked.{AreNumbered, key_of}
 use Rattle.reflect_build.proofs.Numbered.{keys_behind, numbered_more, stored_key}
-use Rattle.reflect_names.specs.Faults.{list_of, place_at}
+use Rattle.reflect_faults.specs.Faults.{list_of, place_at}
 use Rattle.reflect_passes.specs.Errors.{ListsFaults}
 use Rattle.reflect_passes.specs.NumberFaults.{NumberFaults, doubled}
 use Rattle.reflect_passes.proofs.Listed.{places}

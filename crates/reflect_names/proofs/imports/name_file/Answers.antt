@@ -3,10 +3,10 @@ use Rattle.std.proofs.Math.Path.{fun_ext}
 use Rattle.std.proofs.lemmas.Map.Text.{btree_map_updates_text}
 use Rattle.std.specs.Map.{update}
 use Rattle.std.specs.Str.{bytes_eq}
-use Rattle.reflect_names.specs.Faults.{Adds, place_at}
+use Rattle.reflect_faults.specs.Faults.{Adds, place_at}
 use Rattle.reflect_scope.specs.FileIndexes.{indexes_of}
 use Rattle.reflect_names.specs.FileNames.{file_faults, with_file}
-use Rattle.reflect_names.proofs.Added.{adds_none}
+use Rattle.reflect_faults.proofs.Added.{adds_none}
 use Rattle.reflect_names.proofs.FileRuns.{with_new, faults_new, keeps_new}
 use Rattle.reflect_names.proofs.imports.name_file.Goals.{In_ok-insert}
 use Rattle.reflect_names.proofs.imports.name_file.Goals as goal

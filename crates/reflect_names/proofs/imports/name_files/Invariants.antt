@@ -1,5 +1,5 @@
 use Rattle.std.proofs.Common.{◌≡◌, ◌<◌, ◌≤◌, ◌+◌, ◌^◌, take}
-use Rattle.reflect_names.specs.Faults.{Adds, place_at}
+use Rattle.reflect_faults.specs.Faults.{Adds, place_at}
 use Rattle.reflect_scope.specs.FileIndexes.{indexes_of, KeepsIndexes}
 use Rattle.reflect_names.specs.FileNames.{with_files, files_faults}
 use Rattle.reflect_names.proofs.imports.name_files.Given as goal

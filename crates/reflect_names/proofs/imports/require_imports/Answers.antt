@@ -1,7 +1,7 @@
 use Rattle.std.proofs.Common.{arith}
 use Rattle.std.specs.BTreeMap.{get_by_text}
 use Rattle.reflect_names.specs.Names.{import_fault}
-use Rattle.reflect_names.proofs.Added.{adds_more}
+use Rattle.reflect_faults.proofs.Added.{adds_more}
 use Rattle.reflect_names.proofs.imports.require_imports.Goals as goal
 
 pub turns-preserved : goal.turns-preserved

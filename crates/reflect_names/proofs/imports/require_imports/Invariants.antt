@@ -1,7 +1,7 @@
 use Rattle.std.proofs.Common.{take}
 use Rattle.std.specs.BTreeMap.{get_by_text}
 use Rattle.reflect_declarations.specs.Declarations.{each}
-use Rattle.reflect_names.specs.Faults.{Adds, place_at}
+use Rattle.reflect_faults.specs.Faults.{Adds, place_at}
 use Rattle.reflect_names.specs.Names.{import_fault}
 use Rattle.reflect_names.proofs.imports.require_imports.Given as goal
 

@@ -1,7 +1,7 @@
 use Rattle.std.proofs.Common.{◌≡◌, ℤ, pos, arith, subst, get_or, to_z, of_z, w32, rules}
-use Rattle.reflect_names.specs.Faults.{Adds, place_at}
+use Rattle.reflect_faults.specs.Faults.{Adds, place_at}
 use Rattle.reflect_names.specs.Names.{public_fault}
-use Rattle.reflect_names.proofs.Added.{adds_at}
+use Rattle.reflect_faults.proofs.Added.{adds_at}
 use Rattle.reflect_names.proofs.imports.require_indexes.Goals as goal
 
 pub turns-preserved : goal.turns-preserved

@@ -3,11 +3,11 @@ use Rattle.std.proofs.lemmas.List.{append-nil}
 use Rattle.reflect_scope.specs.Means.{scopes, outer}
 use Rattle.reflect_scope.proofs.Scopes.{outer_less}
 use Rattle.reflect_scope.specs.Known.{known_of, declared}
-use Rattle.reflect_names.specs.Faults.{place_at, list_of}
+use Rattle.reflect_faults.specs.Faults.{place_at, list_of}
 use Rattle.reflect_known.specs.KnownNames.{packages, package_of}
 use Rattle.reflect_names.specs.Names.{package_faults, taken}
 use Rattle.reflect_names.specs.NameSteps.{known-on}
-use Rattle.reflect_names.proofs.Added.{places_of_same}
+use Rattle.reflect_faults.proofs.Added.{places_of_same}
 use Rattle.reflect_names.proofs.Packages.{packages_more, packages_last, faults_more, faults_last}
 use Rattle.reflect_names.proofs.names.declare_package.Goals as goal
 

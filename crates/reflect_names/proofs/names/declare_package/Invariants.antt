@@ -3,7 +3,7 @@ use denote.Shadow.{shadow}
 use denote.Text.{Utf8}
 use Rattle.reflect_scope.specs.Means.{scopes}
 use Rattle.reflect_scope.specs.Known.{known_of}
-use Rattle.reflect_names.specs.Faults.{place_at, list_of}
+use Rattle.reflect_faults.specs.Faults.{place_at, list_of}
 use Rattle.reflect_known.specs.KnownNames.{packages}
 use Rattle.reflect_names.specs.Names.{package_faults}
 use Rattle.reflect_names.specs.NameSteps.{KeepsKnown}

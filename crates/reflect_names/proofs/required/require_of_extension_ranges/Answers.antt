@@ -1,7 +1,7 @@
 use Rattle.std.proofs.Common.{arith, subst, ◌∙◌}
-use Rattle.reflect_names.specs.Faults.{Adds, place_at}
+use Rattle.reflect_faults.specs.Faults.{Adds, place_at}
 use Rattle.reflect_names.specs.Names.{bound_faults, extension_range_faults}
-use Rattle.reflect_names.proofs.Added.{adds_more}
+use Rattle.reflect_faults.proofs.Added.{adds_more}
 use Rattle.reflect_names.proofs.required.require_of_extension_ranges.Goals as goal
 
 pub turns-preserved : goal.turns-preserved

@@ -1,6 +1,6 @@
 use Rattle.std.proofs.Common.{take}
 use Rattle.reflect_declarations.specs.Declarations.{each}
-use Rattle.reflect_names.specs.Faults.{Adds, place_at}
+use Rattle.reflect_faults.specs.Faults.{Adds, place_at}
 use Rattle.reflect_names.specs.Names.{extension_range_faults}
 use Rattle.reflect_names.proofs.required.require_of_extension_ranges.Given as goal
 

@@ -1,8 +1,8 @@
 use Rattle.std.proofs.Common.{arith, subst, ◌∙◌, None, get_or}
 use Rattle.descriptor_records.specs.declared.message.ReservedRange.{ReservedRange}
-use Rattle.reflect_names.specs.Faults.{Adds, place_at}
+use Rattle.reflect_faults.specs.Faults.{Adds, place_at}
 use Rattle.reflect_names.specs.Names.{bound_faults, reserved_range_faults}
-use Rattle.reflect_names.proofs.Added.{adds_at}
+use Rattle.reflect_faults.proofs.Added.{adds_at}
 use Rattle.reflect_names.proofs.required.require_of_reserved_ranges.Goals as goal
 
 pub turns-preserved : goal.turns-preserved

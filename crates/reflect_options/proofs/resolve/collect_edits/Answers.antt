@@ -5,7 +5,7 @@ use Rattle.option_parts.specs.Places.{option_place, StandsFrom}
 use Rattle.option_parts.specs.declared.option_scope.OptionScope.{OptionScope}
 use Rattle.option_setter.proofs.Refusals.{unless_then}
 use Rattle.option_setter.specs.OptionNames.{UnlessMemory}
-use Rattle.reflect_names.specs.Faults.{Place}
+use Rattle.reflect_faults.specs.Faults.{Place}
 use Rattle.reflect_options.specs.Settling.{RefusesFile, RefusesFrom, SettlesFile, SettlesFiles, SettlesFrom}
 use Rattle.reflect_options.proofs.Located.{in_file, passed, record_at, refuses_next, settles_next}
 use Rattle.reflect_options.proofs.resolve.collect_edits.Goals as goal

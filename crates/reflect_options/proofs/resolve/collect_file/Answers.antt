@@ -5,8 +5,8 @@ use Rattle.option_parts.specs.Places.{option_place}
 use Rattle.option_setter.proofs.Refusals.{unless_then}
 use Rattle.option_setter.specs.OptionNames.{UnlessMemory}
 use Rattle.reflect_declarations.specs.Declarations.{file_declarations}
-use Rattle.reflect_names.specs.Faults.{Place, place_of}
-use Rattle.reflect_names.specs.Spans.{locations}
+use Rattle.reflect_faults.specs.Faults.{Place, place_of}
+use Rattle.reflect_faults.specs.Spans.{locations}
 use Rattle.reflect_options.specs.Entities.{file_entities, no_offsets}
 use Rattle.reflect_options.specs.Settling.{RefusesEntity, RefusesFile}
 use Rattle.reflect_options.specs.declared.options_visitor.OptionsVisitor.{OptionsVisitor}

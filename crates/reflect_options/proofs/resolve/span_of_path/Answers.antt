@@ -1,6 +1,6 @@
 use Rattle.std.proofs.Common.{◌∙◌, ap, sym, int_eq}
 use Rattle.std.specs.Cmp.Lexicographic.{pointwise}
-use Rattle.reflect_names.specs.Spans.{span_among, span_of}
+use Rattle.reflect_faults.specs.Spans.{span_among, span_of}
 use Rattle.reflect_options.proofs.Located.{here, further}
 use Rattle.reflect_options.proofs.resolve.span_of_path.Goals as goal
 

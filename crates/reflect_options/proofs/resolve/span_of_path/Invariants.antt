@@ -1,5 +1,5 @@
 use Rattle.std.proofs.Common.{◌≡◌, length}
-use Rattle.reflect_names.specs.Spans.{span_among}
+use Rattle.reflect_faults.specs.Spans.{span_among}
 use Rattle.reflect_options.proofs.resolve.span_of_path.Given as goal
 
 abbrev pub decreases-locations : goal.decreases-locations

@@ -1,5 +1,5 @@
 use Rattle.std.proofs.Common.{◌≡◌, ◌<◌, ◌+◌, suc, ◌∙◌, ◌++◌, ap, drop, get_or, length, map, set, subst, take, arith}
-use Rattle.reflect_names.specs.FaultPlaces.{located_of, moved}
+use Rattle.reflect_faults.specs.FaultPlaces.{located_of, moved}
 use Rattle.reflect_passes.proofs.Each.{one_more}
 use Rattle.reflect_passes.proofs.error.locate_others.Goals as goal
 

@@ -1,5 +1,5 @@
 use Rattle.std.proofs.Common.{◌≡◌, ◌++◌, drop, map, take}
-use Rattle.reflect_names.specs.FaultPlaces.{located_of, moved}
+use Rattle.reflect_faults.specs.FaultPlaces.{located_of, moved}
 use Rattle.reflect_passes.proofs.error.locate_others.Given as goal
 
 abbrev pub invariant-loop-fault : goal.invariant-loop-fault

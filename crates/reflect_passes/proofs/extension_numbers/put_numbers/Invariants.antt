@@ -1,5 +1,5 @@
 use Rattle.std.proofs.Common.{◌≡◌, take, length}
-use Rattle.reflect_names.specs.Faults.{Adds, place_at}
+use Rattle.reflect_faults.specs.Faults.{Adds, place_at}
 use Rattle.reflect_tables.specs.ExtensionNumbers.{KeyType, KeepsNumbers, numbers_of}
 use Rattle.reflect_passes.specs.Extensions.{is_known, is_taken, with_numbers, extension_faults}
 use Rattle.reflect_passes.specs.Linked.{linked_says}

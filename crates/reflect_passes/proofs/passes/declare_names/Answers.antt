@@ -1,5 +1,5 @@
 use Rattle.std.proofs.Common.{◌≡◌, [], OnOk, Result, Ok, Err, ap, subst, ◌∙◌}
-use Rattle.reflect_names.specs.Faults.{Adds, list_of, place_at}
+use Rattle.reflect_faults.specs.Faults.{Adds, list_of, place_at}
 use Rattle.reflect_scope.specs.FileIndexes.{indexes_of}
 use Rattle.reflect_scope.specs.Known.{known_of}
 use Rattle.reflect_known.specs.KnownNames.{known_behind}

@@ -1,6 +1,6 @@
 use Rattle.std.proofs.Common.{◌≡◌, [], map, ap, sym, subst, ◌∙◌}
 use Rattle.std.proofs.lemmas.Result.{err_from_is_err_and}
-use Rattle.reflect_names.specs.Faults.{list_of}
+use Rattle.reflect_faults.specs.Faults.{list_of}
 use Rattle.reflect_scope.specs.Known.{known_of}
 use Rattle.reflect_names.specs.ReferenceSteps.{target_of}
 use Rattle.reflect_passes.specs.Errors.{faults_of}

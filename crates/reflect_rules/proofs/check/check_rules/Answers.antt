@@ -3,7 +3,7 @@ use Rattle.std.proofs.Math.Path.{fun_ext}
 use Rattle.std.specs.BTreeMap.{get}
 use Rattle.std.specs.Ordering.{nat_cmp}
 use Rattle.reflect_declarations.specs.Batches.{batch_declarations}
-use Rattle.reflect_names.specs.Faults.{fault_view, list_of, place_at, batch_places}
+use Rattle.reflect_faults.specs.Faults.{fault_view, list_of, place_at, batch_places}
 use Rattle.reflect_names.specs.Names.{Places}
 use Rattle.reflect_rules.specs.Walks.{Place}
 use Rattle.reflect_rules.specs.RulePass.{batch_use, FaultsAlong}

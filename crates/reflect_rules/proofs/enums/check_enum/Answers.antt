@@ -1,9 +1,9 @@
 use Rattle.std.proofs.Common.{◌≡◌, ℤ, List, [], ◌∷◌, ◌++◌, Bool, Some, slice_get, ap, sym, subst, rules}
 use Rattle.descriptor_records.specs.declared.enums.EnumDescriptorProto.{EnumDescriptorProto}
 use Rattle.descriptor_records.specs.declared.enums.EnumValueDescriptorProto.{EnumValueDescriptorProto}
-use Rattle.reflect_names.specs.Faults.{Adds, place_at}
+use Rattle.reflect_faults.specs.Faults.{Adds, place_at}
 use Rattle.reflect_names.specs.Names.{Places}
-use Rattle.reflect_names.proofs.Added.{adds_on, same_places}
+use Rattle.reflect_faults.proofs.Added.{adds_on, same_places}
 use Rattle.reflect_rules.specs.EnumRules.{alias_faults, first_faults, value_faults}
 use Rattle.reflect_rules.proofs.enums.check_enum.Goals as goal
 

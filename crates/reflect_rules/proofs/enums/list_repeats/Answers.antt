@@ -1,6 +1,6 @@
 use Rattle.std.proofs.Common.{◌≡◌, pos, ℕ, ℤ, get_or, arith, to_z, of_z, w32, subst, rules}
-use Rattle.reflect_names.specs.Faults.{Adds, place_at, duplicate_enum_number}
-use Rattle.reflect_names.proofs.Added.{adds_at}
+use Rattle.reflect_faults.specs.Faults.{Adds, place_at, duplicate_enum_number}
+use Rattle.reflect_faults.proofs.Added.{adds_at}
 use Rattle.reflect_rules.specs.Repeats.{repeat_fault}
 use Rattle.reflect_rules.proofs.enums.list_repeats.Goals as goal
 

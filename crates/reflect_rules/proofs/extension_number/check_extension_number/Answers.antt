@@ -1,5 +1,5 @@
 use Rattle.std.proofs.Common.{◌≡◌, Some, ◌++◌, subst, refl, to_z, of_z, w32, rules}
-use Rattle.reflect_names.specs.Faults.{Adds, place_at}
+use Rattle.reflect_faults.specs.Faults.{Adds, place_at}
 use Rattle.reflect_rules.specs.Numbers.{reserved_faults, outside_faults}
 use Rattle.reflect_tables.specs.Ranges.{IsRangeOf}
 use Rattle.reflect_rules.specs.Rules.{ExtensionNumber}

@@ -1,5 +1,5 @@
 use Rattle.std.proofs.Common.{take, pos}
-use Rattle.reflect_names.specs.Faults.{Adds, place_at, duplicate_number}
+use Rattle.reflect_faults.specs.Faults.{Adds, place_at, duplicate_number}
 use Rattle.reflect_rules.specs.Repeats.{listed}
 use Rattle.reflect_rules.proofs.numbers.list_repeats.Given as goal
 

@@ -1,9 +1,9 @@
 use Rattle.std.proofs.Common.{◌++◌, subst, refl}
 use Rattle.reflect_declarations.specs.Declarations.{each}
 use Rattle.reflect_declarations.specs.Tree.{parts_of}
-use Rattle.reflect_names.specs.Faults.{Adds}
+use Rattle.reflect_faults.specs.Faults.{Adds}
 use Rattle.reflect_names.specs.Names.{extension_range_faults, reserved_range_faults}
-use Rattle.reflect_names.proofs.Added.{adds_on, same_places}
+use Rattle.reflect_faults.proofs.Added.{adds_on, same_places}
 use Rattle.reflect_names.proofs.name_visitor.NameVisitorVisitor.visit_message.Goals as goal
 
 pub returns-clause-step : goal.returns-clause-step

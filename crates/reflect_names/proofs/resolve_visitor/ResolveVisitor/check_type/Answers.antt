@@ -1,6 +1,6 @@
 use Rattle.std.proofs.Common.{◌≡◌, ◌∷◌, ◌++◌, [], List, pos, cond, false, codes, sym, subst, rules}
 use Rattle.std.specs.Fmt.{signed_decimal}
-use Rattle.reflect_names.specs.Faults.{Fault, place_at, invalid_type}
+use Rattle.reflect_faults.specs.Faults.{Fault, place_at, invalid_type}
 use Rattle.reflect_names.specs.References.{is_in, type_faults}
 use Rattle.reflect_names.specs.ReferenceSteps.{Finds}
 use Rattle.reflect_names.proofs.resolve_visitor.ResolveVisitor.check_type.Goals as goal

@@ -1,7 +1,7 @@
 use Rattle.std.proofs.Common.{◌∷◌, ◌++◌, [], ℤ, refl, ap, sym, subst, w32}
 use Rattle.std.proofs.lemmas.Int.{to_z-of_z}
 use Rattle.std.proofs.lemmas.Result.{err_from_is_err_and}
-use Rattle.reflect_names.specs.Faults.{place_at}
+use Rattle.reflect_faults.specs.Faults.{place_at}
 use Rattle.reflect_names.specs.References.{kind_meant, meaning_of, targets, unmet}
 use Rattle.reflect_names.specs.ReferenceSteps.{Finds, view_of}
 use Rattle.reflect_names.proofs.resolve_visitor.ResolveVisitor.resolve.Goals as goal

@@ -1,10 +1,10 @@
 use Rattle.std.proofs.Common.{pos, ap, subst, ◌∙◌}
 use Rattle.reflect_scope.specs.declared.definition.ResolveNameFilter.TheVariants as filter
 use Rattle.reflect_scope.specs.Seen.{tells}
-use Rattle.reflect_names.specs.Faults.{place_at}
+use Rattle.reflect_faults.specs.Faults.{place_at}
 use Rattle.reflect_names.specs.References.{name_targets, reference_faults}
 use Rattle.reflect_names.specs.ReferenceSteps.{Finds, view_of}
-use Rattle.reflect_names.proofs.Added.{same_places}
+use Rattle.reflect_faults.proofs.Added.{same_places}
 use Rattle.reflect_names.proofs.Found.{finds_on, same_view}
 use Rattle.reflect_names.proofs.resolve_visitor.ResolveVisitorVisitor.visit_method.Goals as goal
 

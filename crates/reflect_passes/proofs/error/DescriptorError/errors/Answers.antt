@@ -4,7 +4,7 @@ use Rattle.std.specs.Iterator.Adapters.{once_item, once_steps}
 use Rattle.std.specs.declared.iter.Once.{Once}
 use Rattle.std.proofs.lemmas.Iterator.{YieldsList, YieldsList-from_slice}
 use Rattle.std.proofs.lemmas.Iterator.Consumers.{YieldsList-from_shown, YieldsList-from_chain}
-use Rattle.reflect_names.specs.declared.error.DescriptorErrorKind.{DescriptorErrorKind}
+use Rattle.reflect_faults.specs.declared.error.DescriptorErrorKind.{DescriptorErrorKind}
 use Rattle.reflect_passes.proofs.error.DescriptorError.errors.Goals as goal
 
 -- what is lent of the one that is left

@@ -1,12 +1,12 @@
 use Rattle.std.proofs.Common.{◌≡◌, ℤ, List, Option, ◌++◌, subst, ap, ◌∙◌, refl, to_z, of_z, w32, rules}
-use Rattle.reflect_names.specs.Faults.{Fault, Adds, place_at}
+use Rattle.reflect_faults.specs.Faults.{Fault, Adds, place_at}
 use Rattle.reflect_scope.specs.declared.definition.DefinitionKind.{DefinitionKind}
 use Rattle.reflect_references.specs.Meanings.{meaning, behind}
 use Rattle.reflect_rules.specs.Numbers.{number_faults}
 use Rattle.reflect_rules.specs.Rules.{message_of, older_faults, default_faults, number_of, ExtensionNumber, ExtensionFindings, ExtensionFaults}
 use Rattle.reflect_rules.specs.RuleSteps.{facts_of}
 use Rattle.reflect_rules.proofs.Then.{adds_then}
-use Rattle.reflect_names.proofs.Added.{adds_on, same_places}
+use Rattle.reflect_faults.proofs.Added.{adds_on, same_places}
 use Rattle.reflect_rules.proofs.rule_visitor.RuleVisitorVisitor.visit_extension.Goals as goal
 
 pub returns-clause-step : goal.returns-clause-step

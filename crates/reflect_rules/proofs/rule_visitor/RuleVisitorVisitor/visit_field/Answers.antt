@@ -1,5 +1,5 @@
 use Rattle.std.proofs.Common.{◌≡◌, ℤ, Option, ◌++◌, subst, refl, to_z, of_z, w32, rules}
-use Rattle.reflect_names.specs.Faults.{Adds, place_at}
+use Rattle.reflect_faults.specs.Faults.{Adds, place_at}
 use Rattle.reflect_scope.specs.declared.definition.DefinitionKind.{DefinitionKind}
 use Rattle.reflect_rules.specs.Numbers.{number_faults, reserved_faults, kept_faults, oneof_faults}
 use Rattle.reflect_tables.specs.Ranges.{IsRangeOf}

@@ -1,6 +1,6 @@
 use Rattle.std.proofs.Common.{◌≡◌, pos, map, length, subst, ◌∙◌, refl, rules}
 use Rattle.reflect_declarations.specs.Tree.{parts_of}
-use Rattle.reflect_names.specs.Faults.{Adds, place_at, duplicate_number}
+use Rattle.reflect_faults.specs.Faults.{Adds, place_at, duplicate_number}
 use Rattle.reflect_rules.specs.Repeats.{repeat_faults}
 use Rattle.reflect_rules.specs.Rules.{entry_faults, message_faults}
 use Rattle.reflect_rules.specs.RuleSteps.{facts_of}

@@ -1,0 +1,4 @@
+pub mod Added
+pub mod SpanRuns
+pub mod Lines
+pub mod LinesBack

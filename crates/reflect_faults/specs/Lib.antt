@@ -1,0 +1,5 @@
+pub mod Spans
+pub mod SourceBytes
+pub mod Faults
+pub mod FaultPlaces
+pub mod FaultTexts

@@ -1,6 +1,0 @@
-use Rattle.std.proofs.Common.{take}
-use Rattle.reflect_names.specs.Spans.{AreSpans}
-use Rattle.reflect_names.proofs.spans.FileSpans.new.Given as goal
-
-abbrev pub invariant-locations : goal.invariant-locations
-invariant-locations l = AreSpans l.by_path (take l.location-index l.locations)
