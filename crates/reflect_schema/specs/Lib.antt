@@ -1,3 +1,4 @@
+pub mod Ends
 pub mod Runs
 pub mod Statuses
 pub mod Tasks

@@ -1,8 +1,9 @@
 //! The program `schema`, over any files and any streams.
 
-ghost use Rattle.std.specs.Prelude.{◌≡◌, ◌⊎◌, IfErr, IfOk, OnErr, OnOk, Some, option_map};
+ghost use Rattle.std.specs.Prelude.{◌≡◌, ◌⊎◌, IfErr, IfOk, OnErr, OnOk, Some, map, option_map};
 ghost use Rattle.std.specs.Io.KnownBytes.{Appends};
 ghost use Rattle.reflect_bytes.specs.Written.{pool_bytes};
+ghost use Rattle.reflect_schema.specs.Ends.{Ends};
 ghost use Rattle.reflect_schema.specs.Runs.{AddsSet, AddsSources, Begins, MakesSchema, source_names};
 ghost use Rattle.reflect_schema.specs.Runs.{RefusesFirst, RefusesNamed, RefusesSchema, RefusesSet};
 ghost use Rattle.reflect_schema.specs.Statuses.{status_of};
@@ -15,10 +16,11 @@ ghost use Rattle.schema_core.specs.declared.error.SchemaError.TheVariants.{Memor
 ghost use Rattle.schema_core.specs.declared.payload.Fault.TheVariants as fault;
 
 use run_parts::{
-    FileFault, SourceFiles, read_file, read_sources, sources, tell_usage, text_of, write_line,
+    FileFault, SourceFiles, read_file, read_sources, sources, tell_refusal, tell_usage, text_of,
+    write_line,
 };
 use schema_core::{Fault, Schema, SchemaError, serve, write_bytes};
-use schema_words::{Request, Task, parse, requested};
+use schema_words::{Request, Task, parse, requested, require_type};
 use std::alloc::Global;
 use std::fmt;
 use std::io::{Read, Write};
@@ -214,12 +216,23 @@ pub fn answer<F: SourceFiles, R: Read, W: Write>(
     }
 }
 
+/// Writes that a payload wants a type, and gives the status.
+fn tell_untyped<E: Write>(alloc: Global, words: &[&str], errors: &mut E) -> u8
+    ensures { (result ≡ 2) ⊎ (result ≡ 5) }
+{
+    match require_type(alloc, words) {
+        Ok(()) => 2,
+        Err(error) => tell_refusal(alloc, error, errors),
+    }
+}
+
 /// Runs the program `schema` on its words, without its own name, and gives the status that it ends
 /// with.
 ///
 /// 0: answered, or help was asked for. 1: the schema is refused, or a source is not UTF-8. 2: the
 /// command line is refused. 3: the payload is refused. 4: a file, the input or the output cannot be
-/// read or written. 5: memory ran out.
+/// read or written. 5: memory ran out. Where the words ask for nothing that can be done, no file is
+/// read, nor any input. What is refused is told in a line to `errors`.
 pub fn run<F: SourceFiles, R: Read, W: Write, E: Write>(
     alloc: Global,
     words: &[&str],
@@ -227,13 +240,21 @@ pub fn run<F: SourceFiles, R: Read, W: Write, E: Write>(
     input: &mut R,
     output: &mut W,
     errors: &mut E,
-) -> u8 {
+) -> u8
+    ensures { Ends F.read_gives (map (λ word. word.now) words.now)
+        (record {
+        before = files.old;
+        behind = files.new;
+        input = record { before = R.remaining input.old; behind = R.remaining input.new };
+        output = record { before = W.contents output.old; behind = W.contents output.new };
+        }) result }
+{
     let matches = match parse(alloc, words) {
         Ok(matches) => matches,
         Err(error) => return tell_usage(alloc, error, output, errors),
     };
     let Some(wanted) = requested(&matches) else {
-        return 2;
+        return tell_untyped(alloc, words, errors);
     };
     match answer(alloc, wanted, files, input, output) {
         Ok(()) => 0,

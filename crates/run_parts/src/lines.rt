@@ -1,8 +1,8 @@
 //! The lines that a run writes, of its refusals and of its words.
 
-ghost use Rattle.std.specs.Prelude.{◌≡◌, ◌≢◌, ◌⊎◌};
+ghost use Rattle.std.specs.Prelude.{◌≡◌, ◌⊎◌};
 ghost use Rattle.clap.specs.Values.{kind_of};
-ghost use Rattle.clap.specs.declared.error.kind.ErrorKind.TheVariants as kind;
+ghost use Rattle.run_parts.specs.Statuses.{IsShown, refusal_status, usage_status};
 
 use crate::files::FileFault;
 use clap::error::ErrorKind;
@@ -24,31 +24,42 @@ fn write_version<W: Write>(alloc: Global, stream: &mut W, version: clap::Error) 
     }
 }
 
-/// Writes help, or why the command line is refused, and gives the status: 0 where help or the
-/// version was asked for, 5 where memory ran out, and else 2.
+/// Writes why the command line is refused, and gives the status: 5 where memory ran out, and else 2.
+pub fn tell_refusal<E: Write>(alloc: Global, error: clap::Error, errors: &mut E) -> u8
+    ensures { result ≡ refusal_status (kind_of error) }
+{
+    match error.kind() {
+        ErrorKind::OutOfMemory => {
+            write_line(alloc, errors, FileFault::Memory);
+            5
+        }
+        _ => {
+            write_line(alloc, errors, error);
+            2
+        }
+    }
+}
+
+/// Writes help or the version, where it was asked for, and else why the command line is refused,
+/// and gives the status: 0 where something was asked for, and else that of the refusal.
 pub fn tell_usage<W: Write, E: Write>(
     alloc: Global,
     error: clap::Error,
     output: &mut W,
     errors: &mut E,
 ) -> u8
-    ensures memory { kind_of error ≡ kind.OutOfMemory → result ≡ 5 }
-    ensures shown { (kind_of error ≡ kind.DisplayHelp) ⊎ (kind_of error ≡ kind.DisplayVersion)
-        → result ≡ 0 }
-    ensures refused { kind_of error ≢ kind.OutOfMemory → kind_of error ≢ kind.DisplayHelp
-        → kind_of error ≢ kind.DisplayVersion → result ≡ 2 }
+    ensures status { result ≡ usage_status (kind_of error) }
+    ensures kept { IsShown (kind_of error) ⊎ (output.new ≡ output.old) }
 {
-    if error.kind() == ErrorKind::OutOfMemory {
-        write_line(alloc, errors, FileFault::Memory);
-        5
-    } else if error.use_stderr() {
-        write_line(alloc, errors, error);
-        2
-    } else if error.kind() == ErrorKind::DisplayVersion {
-        write_version(alloc, output, error);
-        0
-    } else {
-        write_line(alloc, output, error);
-        0
+    match error.kind() {
+        ErrorKind::DisplayHelp => {
+            write_line(alloc, output, error);
+            0
+        }
+        ErrorKind::DisplayVersion => {
+            write_version(alloc, output, error);
+            0
+        }
+        _ => tell_refusal(alloc, error, errors),
     }
 }

@@ -1,8 +1,14 @@
 //! The words of the command line.
 
-ghost use Rattle.std.specs.Prelude.{IfNone, IfSome};
+ghost use Rattle.std.specs.Prelude.{◌≡◌, IfNone, IfOk, IfSome, codes, false, map};
 ghost use Rattle.clap.specs.Matches.{found_of};
+ghost use Rattle.clap.specs.Simple.{app_of};
+ghost use Rattle.clap.specs.Walk.{rows_of, rule_of};
+ghost use Rattle.clap.specs.declared.builder.value_parser.ValueParser.{ValueParser};
 ghost use Rattle.schema_words.specs.Asked.{Asks, AsksNothing, AsksTask};
+ghost use Rattle.schema_words.specs.CommandLine.{AreRead, IsRead, TakesActions, action_rule};
+ghost use Rattle.schema_words.specs.CommandLine.{app_with, hex_rule, names_rule, option_rule};
+ghost use Rattle.schema_words.specs.CommandLine.{root_rule};
 ghost use Rattle.schema_words.specs.declared.request.Task.{Task};
 
 use crate::request::{Action, Request, Task};
@@ -19,7 +25,9 @@ const EXAMPLES: &str = "Examples:
   schema set --descriptor descriptor.proto a.proto b.proto > files.set";
 
 /// What is done.
-fn action<'a>(alloc: Global) -> Arg<'a> {
+fn action<'a>(alloc: Global) -> Arg<'a>
+    ensures { (parser : ValueParser) × TakesActions parser × IsRead (action_rule parser) result }
+{
     Arg::new(alloc, "action")
         .value_name("ACTION")
         .required(true)
@@ -29,32 +37,36 @@ fn action<'a>(alloc: Global) -> Arg<'a> {
         )
 }
 
-fn descriptor<'a>(alloc: Global) -> Arg<'a> {
+fn descriptor<'a>(alloc: Global) -> Arg<'a>
+    ensures { IsRead (option_rule (codes "descriptor")) result }
+{
     Arg::new(alloc, "descriptor")
         .long("descriptor")
         .value_name("FILE")
         .help("A descriptor.proto whose types the options are read by")
 }
 
-fn set<'a>(alloc: Global) -> Arg<'a> {
+fn set<'a>(alloc: Global) -> Arg<'a>
+    ensures { IsRead (option_rule (codes "set")) result }
+{
     Arg::new(alloc, "set")
         .long("set")
         .value_name("FILE")
         .help("A descriptor set whose files come before the sources")
 }
 
-fn type_name<'a>(alloc: Global) -> Result<Arg<'a>, AllocError> {
-    let type_name = Arg::new(alloc, "type")
+fn type_name<'a>(alloc: Global) -> Arg<'a>
+    ensures { IsRead (option_rule (codes "type")) result }
+{
+    Arg::new(alloc, "type")
         .long("type")
         .value_name("NAME")
-        .required_if_eq("action", "encode")?
-        .required_if_eq("action", "decode")?
-        .required_if_eq("action", "recode")?
-        .help("The full name of the message type; set does without");
-    Ok(type_name)
+        .help("The full name of the message type; set does without")
 }
 
-fn root<'a>(alloc: Global) -> Arg<'a> {
+fn root<'a>(alloc: Global) -> Arg<'a>
+    ensures { IsRead root_rule result }
+{
     Arg::new(alloc, "root")
         .long("root")
         .value_name("DIR")
@@ -62,14 +74,18 @@ fn root<'a>(alloc: Global) -> Arg<'a> {
         .help("The folder that the sources stand in")
 }
 
-fn hex<'a>(alloc: Global) -> Arg<'a> {
+fn hex<'a>(alloc: Global) -> Arg<'a>
+    ensures { IsRead hex_rule result }
+{
     Arg::new(alloc, "hex")
         .long("hex")
         .action(ArgAction::SetTrue)
         .help("Reads and writes wire bytes as hexadecimal text")
 }
 
-fn names<'a>(alloc: Global) -> Arg<'a> {
+fn names<'a>(alloc: Global) -> Arg<'a>
+    ensures { IsRead names_rule result }
+{
     Arg::new(alloc, "names")
         .value_name("NAMES")
         .num_args(0..)
@@ -78,8 +94,11 @@ fn names<'a>(alloc: Global) -> Arg<'a> {
         )
 }
 
-/// The command line that `schema` takes.
-fn command<'a>(alloc: Global) -> Result<Command<'a>, AllocError> {
+/// The command line that `schema` takes, with its argument for the type.
+fn command<'a>(alloc: Global, type_name: Arg<'a>) -> Result<Command<'a>, AllocError>
+    ensures { IfOk result (λ c. type_name.entry.global ≡ false → (parser : ValueParser)
+        × TakesActions parser × (app_of c ≡ app_with parser (rule_of type_name.entry))) }
+{
     Command::new(alloc, "schema")
         .no_binary_name(true)
         .about(
@@ -90,22 +109,35 @@ fn command<'a>(alloc: Global) -> Result<Command<'a>, AllocError> {
         .arg(action(alloc))?
         .arg(descriptor(alloc))?
         .arg(set(alloc))?
-        .arg(type_name(alloc)?)?
+        .arg(type_name)?
         .arg(root(alloc))?
         .arg(hex(alloc))?
         .arg(names(alloc))
 }
 
-/// Reads the words, without the program's name.
-pub fn parse<'a>(alloc: Global, words: &'a [&'a str]) -> Result<ArgMatches<'a>, Error> {
-    command(alloc)?.try_get_matches_from(words)
+/// Reads the words, without the program's name. Whether a type is wanted is not asked yet.
+pub fn parse<'a>(alloc: Global, words: &'a [&'a str]) -> Result<ArgMatches<'a>, Error>
+    ensures { AreRead (map (λ word. word.now) words.now) result }
+{
+    command(alloc, type_name(alloc))?.try_get_matches_from(words)
+}
+
+/// Reads the words again, and asks that a payload has a type; a refusal is told in the words of the
+/// command line.
+pub fn require_type(alloc: Global, words: &[&str]) -> Result<(), Error> {
+    let type_name = type_name(alloc)
+        .required_if_eq("action", "encode")?
+        .required_if_eq("action", "decode")?
+        .required_if_eq("action", "recode")?;
+    command(alloc, type_name)?.try_get_matches_from(words)?;
+    Ok(())
 }
 
 /// What is asked of the payload, or of the schema itself; nothing where a word is missing that the
 /// command line requires.
 fn asked_task<'m, 'a>(matches: &'m ArgMatches<'a>) -> Option<Task<'m>>
-    ensures asked { IfSome result (AsksTask (found_of matches.now)) }
-    ensures none { IfNone result ((task : Task) → AsksTask (found_of matches.now) task → ⊥) }
+    ensures asked { IfSome result (AsksTask (rows_of (found_of matches.now))) }
+    ensures none { IfNone result ((task : Task) → AsksTask (rows_of (found_of matches.now)) task → ⊥) }
 {
     let action = match matches.get_str("action")? {
         "encode" => Action::Encode,
@@ -120,8 +152,8 @@ fn asked_task<'m, 'a>(matches: &'m ArgMatches<'a>) -> Option<Task<'m>>
 /// What the words that were read ask for; nothing where a word is missing that the command line
 /// requires.
 pub fn requested<'m, 'a>(matches: &'m ArgMatches<'a>) -> Option<Request<'m>>
-    ensures asked { IfSome result (Asks (found_of matches.now)) }
-    ensures none { IfNone result (AsksNothing (found_of matches.now)) }
+    ensures asked { IfSome result (Asks (rows_of (found_of matches.now))) }
+    ensures none { IfNone result (AsksNothing (rows_of (found_of matches.now))) }
 {
     Some(Request {
         task: asked_task(matches)?,

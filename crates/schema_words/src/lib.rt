@@ -4,5 +4,5 @@
 mod command_line;
 mod request;
 
-pub use command_line::{parse, requested};
+pub use command_line::{parse, requested, require_type};
 pub use request::{Action, Request, Task};
