@@ -13,13 +13,13 @@ use Rattle.reflect_numbered.specs.Fits.{has_type, suits_type}
 use Rattle.reflect_numbered.specs.declared.validity.Strictness.TheVariants.{Types}
 use Rattle.message_view.proofs.Seen.{list_seen, map_seen, message_seen, single_seen}
 use Rattle.valid_view.specs.Inside.{EachMessage, IfMessage}
-use Rattle.valid_view.proofs.Leaving.{EntryLeft, OneLeft, WholeLeft, left_list, left_map, left_one, message_left, single_left}
+use Rattle.valid_view.proofs.LeftOnes.{EntryLeft, OneLeft, WholeLeft, left_list, left_map, left_one, message_left, single_left}
 use Rattle.valid_view.proofs.Opened.{held_fits}
 use Rattle.valid_view.proofs.Passing.{both}
 use Rattle.valid_view.proofs.Valid.{IsEntry, One, Whole, one_message, one_single, whole_list, whole_map, whole_one}
 
 -- a message of a kind is of its type
-its_type : (pool : PoolType) (t : KindType) (d : MessageDescriptor) → d.pool.now ≡ pool → t ≡ types.message d.index → has_type pool t d ≡ true
+pub its_type : (pool : PoolType) (t : KindType) (d : MessageDescriptor) → d.pool.now ≡ pool → t ≡ types.message d.index → has_type pool t d ≡ true
 its_type pool t d pooled is =
     ap (λ t. has_type pool t d) is
     ∙ both (d.index == d.index) (bytes_eq (type_at d.pool.now d.index).full_name (type_at pool d.index).full_name) place
@@ -27,6 +27,22 @@ its_type pool t d pooled is =
     ∙ (bytes_eq-Decides (type_at d.pool.now d.index).full_name (type_at d.pool.now d.index).full_name).1 refl) where
       place : (d.index == d.index) ≡ true
       place = grind arith
+
+-- what holds of each in a list, or in a map, holds of each in the value that this is
+module _ (P : DynamicMessage → Type 0) (v : Value) where
+  pub list_each : (vs : List Value) → list_items v ≡ Some vs → AllByRecursion (IfMessage P) vs → EachMessage P v
+  list_each vs at all = record {
+    itself = λ m other. absurd (cc (sym (list_seen v vs at) ∙ message_seen v m other));
+    items = λ us there. subst (AllByRecursion (IfMessage P)) (ap (λ o. unwrap_or o us) (sym at ∙ there)) all;
+    entries = λ es other. absurd (cc (sym (list_seen v vs at) ∙ map_seen v es other));
+  }
+
+  pub map_each : (es : List (MapKey × Value)) → map_entries v ≡ Some es → AllByRecursion (λ (e : MapKey × Value). IfMessage P e.1) es → EachMessage P v
+  map_each es at all = record {
+    itself = λ m other. absurd (cc (sym (map_seen v es at) ∙ message_seen v m other));
+    items = λ vs other. absurd (cc (sym (map_seen v es at) ∙ list_seen v vs other));
+    entries = λ fs there. subst (AllByRecursion (λ (e : MapKey × Value). IfMessage P e.1)) (ap (λ o. unwrap_or o fs) (sym at ∙ there)) all;
+  }
 
 module _ (Q : DynamicMessage → Type 0) (pool : PoolType) where
   module _ (typed : (m : DynamicMessage) → Q m → suits_type Types m ≡ true) where
@@ -76,13 +92,5 @@ module _ (Q : DynamicMessage → Type 0) (pool : PoolType) where
       items = λ vs other. absurd (no_items f.kind v one vs other);
       entries = λ es other. absurd (no_entries f.kind v one es other);
     }
-    left_each f v (left_list no_map repeats vs at all) = record {
-      itself = λ m other. absurd (cc (sym (list_seen v vs at) ∙ message_seen v m other));
-      items = λ us there. subst (AllByRecursion (IfMessage P)) (ap (λ o. unwrap_or o us) (sym at ∙ there)) (all_each f.kind vs all);
-      entries = λ es other. absurd (cc (sym (list_seen v vs at) ∙ map_seen v es other));
-    }
-    left_each f v (left_map is_map es at keys values first second all) = record {
-      itself = λ m other. absurd (cc (sym (map_seen v es at) ∙ message_seen v m other));
-      items = λ vs other. absurd (cc (sym (map_seen v es at) ∙ list_seen v vs other));
-      entries = λ fs there. subst (AllByRecursion (λ (e : MapKey × Value). IfMessage P e.1)) (ap (λ o. unwrap_or o fs) (sym at ∙ there)) (entries_each keys.kind values.kind es all);
-    }
+    left_each f v (left_list no_map repeats vs at all) = list_each P v vs at (all_each f.kind vs all)
+    left_each f v (left_map is_map es at keys values first second all) = map_each P v es at (entries_each keys.kind values.kind es all)

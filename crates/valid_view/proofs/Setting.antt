@@ -32,12 +32,12 @@ module _ (how : Strictness) (pool : PoolType) where
   abbrev Suits : DynamicMessage → Type 0
   Suits m = suits_type how m ≡ true
 
-  kind_deep : (strictness : Strictness) (t : KindType) (m : DynamicMessage) → kinds_of m Surface pool t ≡ true → suits_type strictness m ≡ true → kinds_of m strictness pool t ≡ true
+  pub kind_deep : (strictness : Strictness) (t : KindType) (m : DynamicMessage) → kinds_of m Surface pool t ≡ true → suits_type strictness m ≡ true → kinds_of m strictness pool t ≡ true
   kind_deep Surface t m is suits = is
   kind_deep Shape t m is suits = both (is_message t) (held_fits m.held Shape m.descriptor.pool.now m.descriptor.index) (ap is_message (of_type pool t m.descriptor is)) suits
   kind_deep Types t m is suits = both (has_type pool t m.descriptor) (held_fits m.held Types m.descriptor.pool.now m.descriptor.index) is suits
 
-  one_deep : (t : KindType) (v : Value) → One Surface pool t v → IfMessage Suits v → One how pool t v
+  pub one_deep : (t : KindType) (v : Value) → One Surface pool t v → IfMessage Suits v → One how pool t v
   one_deep t v (one_single w at is) inside = one_single w at is
   one_deep t v (one_message m at is) inside = one_message m at (kind_deep how t m is (inside m at))
 
@@ -60,11 +60,11 @@ module _ (how : Strictness) (pool : PoolType) where
   valid_passes f v valid inside = whole_passes how pool f v (whole_deep f v (whole_of Surface pool f v valid.1) inside)
 
   -- ---- under one number stands what passes, and under others what did or nothing
-  put_passes : (known : ℕ → Option FieldType) (k : ℕ) (g : FieldType) (v : Value) → known k ≡ Some g → (fit_of v).whole how pool g ≡ true
-      → (old new : List (ℕ × Value)) → value_at new k ≡ Some v → ((n : ℕ) → n ≢ k → StaysOrGoes old new n)
+  pub changed_passes : (known : ℕ → Option FieldType) (k : ℕ) (g : FieldType) → known k ≡ Some g
+      → (old new : List (ℕ × Value)) → ((v : Value) → value_at new k ≡ Some v → (fit_of v).whole how pool g ≡ true) → ((n : ℕ) → n ≢ k → StaysOrGoes old new n)
       → ((n : ℕ) (w : Value) → value_at old n ≡ Some w → under_fits how pool (known n) (fit_of w) ≡ true)
       → (n : ℕ) (w : Value) → value_at new n ≡ Some w → under_fits how pool (known n) (fit_of w) ≡ true
-  put_passes known k g v there fits old new here others passed n w at = by (n == k) refl where
+  changed_passes known k g there old new fits others passed n w at = by (n == k) refl where
     left : StaysOrGoes old new n → under_fits how pool (known n) (fit_of w) ≡ true
     left (inl same) = passed n w (sym same ∙ at)
     left (inr gone) = absurd (cc (sym gone ∙ at))
@@ -72,9 +72,14 @@ module _ (how : Strictness) (pool : PoolType) where
     by : (b : Bool) → (n == k) ≡ b → under_fits how pool (known n) (fit_of w) ≡ true
     by true is =
         let number : n ≡ k = grind (arith, is) in
-        let value : v ≡ w = ap (λ o. unwrap_or o v) (sym here ∙ ap (value_at new) (sym number) ∙ at) in
-        ap (λ o. under_fits how pool o (fit_of w)) (ap known number ∙ there) ∙ subst (λ u. (fit_of u).whole how pool g ≡ true) value fits
+        ap (λ o. under_fits how pool o (fit_of w)) (ap known number ∙ there) ∙ fits w (ap (value_at new) (sym number) ∙ at)
     by false is = left (others n (λ same. grind (arith, is, same)))
+
+  -- the one value that is put there
+  put_passes : (g : FieldType) (v : Value) → (fit_of v).whole how pool g ≡ true → (o : Option Value) → o ≡ Some v → (w : Value) → o ≡ Some w → (fit_of w).whole how pool g ≡ true
+  put_passes g v fits o here w at =
+      let value : v ≡ w = ap (λ o. unwrap_or o v) (sym here ∙ at) in
+      subst (λ u. (fit_of u).whole how pool g ≡ true) value fits
 
 module _ (how : Strictness) (old new : DynamicMessage) (suits : suits_type how old ≡ true) where
   abbrev pool : PoolType
@@ -87,7 +92,7 @@ module _ (how : Strictness) (old new : DynamicMessage) (suits : suits_type how o
   Inside v = EachMessage (λ (m : DynamicMessage). suits_type how m ≡ true) v
 
   -- by the type that the message has still
-  again : new.descriptor ≡ old.descriptor → list_all (field_fits how pool i) (fits_of (fields_of new)) ≡ true → list_all (extension_fits how pool i) (fits_of (extensions_of new)) ≡ true → suits_type how new ≡ true
+  pub again : new.descriptor ≡ old.descriptor → list_all (field_fits how pool i) (fits_of (fields_of new)) ≡ true → list_all (extension_fits how pool i) (fits_of (extensions_of new)) ≡ true → suits_type how new ≡ true
   again type fields extensions =
       all_pass_again how new
       (subst (λ (d : MessageDescriptor). list_all (field_fits how d.pool.now d.index) (fits_of (fields_of new)) ≡ true) (sym type) fields)
@@ -98,7 +103,8 @@ module _ (how : Strictness) (old new : DynamicMessage) (suits : suits_type how o
   set_typed type f owns v valid inside sets up =
       again type
       (each_passes (field_fits how pool i) (fields_of new) (fields_of new) (found (fields_of new) up)
-      (put_passes how pool (known_field pool i) (field_type f).number (field_type f) v (owned old.descriptor f owns) (valid_passes how pool (field_type f) v valid inside) (fields_of old) (fields_of new) sets.here
+      (changed_passes how pool (known_field pool i) (field_type f).number (field_type f) (owned old.descriptor f owns) (fields_of old) (fields_of new)
+      (put_passes how pool (field_type f) v (valid_passes how pool (field_type f) v valid inside) (value_at (fields_of new) (field_type f).number) sets.here)
       (others_stay f (choices_of old) (fields_of old) (fields_of new) sets.changes) (under_field how old suits)))
       (subst (λ (es : List (ℕ × Value)). list_all (extension_fits how pool i) (fits_of es) ≡ true) (sym sets.extensions) (halves how old suits).1)
 
@@ -108,5 +114,6 @@ module _ (how : Strictness) (old new : DynamicMessage) (suits : suits_type how o
       again updates.same_type
       (subst (λ (es : List (ℕ × Value)). list_all (field_fits how pool i) (fits_of es) ≡ true) (sym updates.fields) (halves how old suits).0)
       (each_passes (extension_fits how pool i) (extensions_of new) (extensions_of new) (found (extensions_of new) updates.extension.ascending)
-      (put_passes how pool (known_extension pool i) (extension_type x).number (extension_type x) v (extension_owned old.descriptor x owns) (valid_passes how pool (extension_type x) v valid inside) (extensions_of old) (extensions_of new) updates.extension.here
+      (changed_passes how pool (known_extension pool i) (extension_type x).number (extension_type x) (extension_owned old.descriptor x owns) (extensions_of old) (extensions_of new)
+      (put_passes how pool (extension_type x) v (valid_passes how pool (extension_type x) v valid inside) (value_at (extensions_of new) (extension_type x).number) updates.extension.here)
       (λ n other. inl (updates.extension.others n other)) (under_extension how old suits)))

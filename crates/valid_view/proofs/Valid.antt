@@ -68,7 +68,7 @@ module _ (how : Strictness) (pool : PoolType) where
   no_repeat true true is e = absurd (cc is)
   no_repeat false m is e = refl
 
-  no_map : (f : FieldType) → holds_list pool f ≡ true → (holds_map pool f ≡ false) × (is_repeated f.cardinality ≡ true)
+  pub no_map : (f : FieldType) → holds_list pool f ≡ true → (holds_map pool f ≡ false) × (is_repeated f.cardinality ≡ true)
   no_map f h = let two = and_parts (is_repeated f.cardinality) (not (holds_map pool f)) h in (untrue (holds_map pool f) two.1, two.0)
 
   of_one : (f : FieldType) (v : Value) (b : Bool) → (b ≡ true → One how pool f.kind v) → (holds_one pool f && b) ≡ true → Whole how pool f v

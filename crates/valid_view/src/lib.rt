@@ -6,6 +6,7 @@
 pub mod calls;
 pub mod keeping;
 pub mod laws;
+pub mod merged;
 pub mod messages;
 mod whole;
 
