@@ -1,12 +1,10 @@
 -- What stands in the fields of an Any, in the words of the printer and of the model.
-use Rattle.std.proofs.Common.{◌≡◌, ◌⊎◌, inl, inr, ℕ, ◌<◌, Bool, true, false, cond, [], length, Option, Some, None, option_map, option_and_then, refl, sym, ap, ap₂, ◌∙◌, subst}
+use Rattle.std.proofs.Common.{◌≡◌, ◌⊎◌, inl, inr, ℕ, Bool, true, false, cond, [], Option, Some, None, option_map, option_and_then, refl, sym, ap, ap₂, ◌∙◌, subst}
 use Rattle.std.specs.Option.{option_or}
-use Rattle.reflect_tables.specs.Finding.{IsFirst}
-use Rattle.reflect_tables.specs.Types.{PoolType, FieldType, KindType, DefaultType, type_at, type_of_field}
+use Rattle.reflect_tables.specs.Types.{PoolType, FieldType, KindType, DefaultType}
 use Rattle.reflect_tables.specs.Types as types
 use Rattle.reflect_pool.specs.FieldsLeft.{field_type}
 use Rattle.reflect_pool.specs.Shapes.{holds_list, holds_map}
-use Rattle.reflect_pool.specs.declared.field.FieldDescriptor.{FieldDescriptor}
 use Rattle.reflect_entries.specs.Entries.{value_at}
 use Rattle.reflect_any.specs.Any.{IsLone}
 use Rattle.reflect_scalar.specs.Defaults.{declared_in, kind_default}
@@ -19,7 +17,6 @@ use Rattle.reflect_message.specs.Known.{if_held, is_float, known_field, known_ex
 use Rattle.reflect_message.specs.Names.{DynamicMessage, Value}
 use Rattle.reflect_message.specs.Shown.{IsHeldOrDefault}
 use Rattle.reflect_message.specs.Singles as singles
-use Rattle.reflect_message.proofs.Known.{field_found}
 use Rattle.print_parts.specs.Expands as any
 use Rattle.print_parts.specs.Expands.{IsUnder}
 use Rattle.print_parts.specs.Parts.{url_in}
@@ -38,9 +35,9 @@ use Rattle.message_view.specs.Views.{content_view, contents_view, held_either, i
 use Rattle.message_view.proofs.Entries.{default_is, some_default}
 use Rattle.message_view.proofs.Fields.{known}
 use Rattle.message_view.proofs.Seen.{single_seen, value_at-view, view_opened}
-use Rattle.text_view.proofs.Apart.{field_first}
 use Rattle.text_view.proofs.Entries.{whole_field}
 use Rattle.print_view.proofs.Defaults.{is_same}
+use Rattle.print_view.proofs.UnderNumbers.{under_found, under_value}
 
 shown_text : (w : held.Single) → text_in (content (single (single_view w))) ≡ url_in (any.text_in (Some w))
 shown_text (held.truth b) = refl
@@ -76,25 +73,11 @@ module _ (m : DynamicMessage) (apart : AreApart m.descriptor.pool.now) (levels :
 
   -- of a field that holds one value of a kind
   module _ (n : ℕ) (v : Value) (under : IsUnder m n v) (kind : KindType) (plain_kind : IsScalarType kind) (whole : is_float kind ≡ false) (lone : IsLone m.descriptor.pool.now m.descriptor.index kind (numbered_field m.descriptor.pool.now m.descriptor.index n)) where
-    abbrev f : FieldDescriptor
-    f = under.field
-
     abbrev g : FieldType
     g = field_type under.field
 
-    place : type_of_field pool i f.index ≡ g
-    place = ap (λ j. type_of_field pool j f.index) (sym under.declared.0) ∙ ap (λ p. type_of_field p f.message.index f.index) (sym under.declared.1)
-
-    in_fields : f.index < length (type_at pool i).fields
-    in_fields = subst (λ (p : PoolType). f.index < length (type_at p i).fields) under.declared.1 (subst (λ j. f.index < length (type_at f.message.pool.now j).fields) under.declared.0 f.in_range)
-
-    first : IsFirst (λ (h : FieldType). h.number ≡ g.number) (type_at pool i).fields (Some f.index)
-    first =
-        subst (λ (t : FieldType). IsFirst (λ (h : FieldType). h.number ≡ t.number) (type_at pool i).fields (Some f.index)) place
-        (field_first m.descriptor apart (record { message = m.descriptor; index = f.index; in_range = in_fields }) refl in_fields)
-
     found : numbered_field pool i n ≡ Some g
-    found = ap (numbered_field pool i) (sym under.number) ∙ field_found pool i g.number f.index first ∙ ap Some place
+    found = under_found m apart n v under
 
     its_lone : IsLone pool i kind (Some g)
     its_lone = subst (IsLone pool i kind) found lone
@@ -112,7 +95,7 @@ module _ (m : DynamicMessage) (apart : AreApart m.descriptor.pool.now) (levels :
         ∙ ap (views.held_in pool g) (value_at-view (fields_of m) n)
 
     value : IsHeldOrDefault pool g (value_at (fields_of m) n) v
-    value = subst (λ q. IsHeldOrDefault pool g (value_at (fields_of m) q) v) under.number (subst (λ p. IsHeldOrDefault p g (value_at (fields_of m) g.number) v) under.declared.1 under.value)
+    value = under_value m apart n v under
 
     -- the value is there, or it is the default and is not set
     abbrev Seen : held.Single → Type 0

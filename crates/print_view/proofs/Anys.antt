@@ -41,13 +41,13 @@ slash_next b bs = by (last_slash bs) where
   by (Some p) = refl
   by None = refl
 
-no_slash : (z : Text) → Lacks 47 z → last_slash z ≡ None
+pub no_slash : (z : Text) → Lacks 47 z → last_slash z ≡ None
 no_slash [] h = refl
 no_slash (b ∷ bs) h =
     slash_next b bs ∙ ap (slash_behind b bs) (no_slash bs (λ j lt e. h (suc j) (omega (arith, lt)) e))
     ∙ elim (eqb_tells b 47) [ inl e ↦ absurd (h 0 (omega arith) e.1) | inr e ↦ ap (λ t. cond t (Some ([], bs)) None) e.0 ]
 
-found_slash : (front name : Text) → Lacks 47 name → last_slash (front ++ 47 ∷ name) ≡ Some (front, name)
+pub found_slash : (front name : Text) → Lacks 47 name → last_slash (front ++ 47 ∷ name) ≡ Some (front, name)
 found_slash [] name h = slash_next 47 name ∙ ap (slash_behind 47 name) (no_slash name h)
 found_slash (b ∷ front) name h = slash_next b (front ++ 47 ∷ name) ∙ ap (slash_behind b (front ++ 47 ∷ name)) (found_slash front name h)
 

@@ -47,11 +47,11 @@ none_meant : (pool : PoolType) (i : ℕ) (t : Name) (bytes : List ℕ) (k : Deci
 none_meant pool i t bytes (inl h) none = absurd (none h)
 none_meant pool i t bytes (inr other) none = refl
 
-spelled_taken : (d : MessageDescriptor) (bytes : List ℕ) (m : DynamicMessage) → IsSpelled d bytes m → AreTaken d.pool.now d.index bytes
+pub spelled_taken : (d : MessageDescriptor) (bytes : List ℕ) (m : DynamicMessage) → IsSpelled d bytes m → AreTaken d.pool.now d.index bytes
 spelled_taken d bytes m (rs, spelled, keeps, some, also, fields, (extensions, apart), accepts, ordered) = (rs, spelled, accepts)
 
 -- what is refused is not taken
-told_excluded : (d : MessageDescriptor) → IsSound d.pool.now → (bytes : List ℕ) (e : WireError) → IsFault e → TellsWhy d bytes e → AreTaken d.pool.now d.index bytes → ⊥
+pub told_excluded : (d : MessageDescriptor) → IsSound d.pool.now → (bytes : List ℕ) (e : WireError) → IsFault e → TellsWhy d bytes e → AreTaken d.pool.now d.index bytes → ⊥
 told_excluded d sound bytes e is why (rs, spelled, accepts) = by e is why where
   wrong : (e : WireError) → BodyFault 100 d.pool.now d.index None bytes e → ⊥
   wrong e fault = excluded d.pool.now sound.keys 100 d.index bytes e fault rs spelled accepts

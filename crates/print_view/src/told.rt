@@ -8,6 +8,8 @@ ghost use Rattle.reflect_message.specs.Names.{DynamicMessage};
 ghost use Rattle.reflect_print.specs.MessageTexts.{IsMessageText};
 ghost use Rattle.text_lines.specs.UnknownTexts.{IsPayloadText, IsRecordText};
 ghost use Rattle.text_lines.specs.declared.options.FormatOptions.{FormatOptions};
+ghost use Rattle.message_view.specs.Shaped.{Shaped};
+ghost use Rattle.message_view.specs.Sound.{IsSound};
 ghost use Rattle.print_view.specs.Told.{told};
 
 /// A record is told in one text, whatever its payloads spell.
@@ -21,6 +23,15 @@ pub fn records_are_told_in_one_text()
 /// it, and whatever its unknown records spell: no two runs of the printer differ.
 pub fn messages_are_printed_in_one_text()
     ensures { (options : FormatOptions) → options.expand_any ≡ false → (m : DynamicMessage)
+        → (a b : Text) → IsMessageText options m a → IsMessageText options m b → a ≡ b }
+{}
+
+/// In each form, also in one in which Anys are expanded, so is a message in shape, of however many
+/// levels, of a sound pool: what the bytes of an Any spell is not one value in memory, but it is
+/// printed in one text.
+pub fn messages_in_shape_are_printed_in_one_text()
+    ensures { (options : FormatOptions) (levels : ℕ) (m : DynamicMessage)
+        → IsSound m.descriptor.pool.now → Shaped levels m
         → (a b : Text) → IsMessageText options m a → IsMessageText options m b → a ≡ b }
 {}
 

@@ -1,5 +1,5 @@
-use Rattle.print_view.proofs.OneText.{printed_once}
+use Rattle.print_view.proofs.InOneText.{plain_once}
 use Rattle.print_view.proofs.told.messages_are_printed_in_one_text.Goals as goal
 
 pub returns : goal.returns
-returns c = printed_once
+returns c = plain_once
