@@ -1,20 +1,21 @@
 -- What is printed of messages that are alike is alike, entry by entry.
-use Rattle.std.proofs.Common.{◌≡◌, ◌&&◌, ◌||◌, ◌++◌, ℕ, not, Bool, true, false, cond, List, [], ◌∷◌, map, Option, Some, None, refl, sym, ap, ◌∙◌, subst}
+use Rattle.std.proofs.Common.{◌≡◌, ◌&&◌, ◌||◌, ℕ, not, Bool, cond, List, [], ◌∷◌, Option, Some, None, refl, sym, ap, ◌∙◌, subst}
 use Rattle.std.specs.List.{AllByRecursion, cons_option, filter, filter_map}
 use Rattle.protobuf_model.proofs.Lists.{all_map}
 use Rattle.reflect_tables.specs.Types.{FieldType, PoolType, type_at}
 use Rattle.reflect_pool.specs.declared.message.MessageDescriptor.{MessageDescriptor}
-use Rattle.reflect_message.specs.Held.{extensions_of, fields_of, unknown_of}
+use Rattle.reflect_message.specs.Held.{extensions_of, fields_of}
 use Rattle.reflect_message.specs.Known.{known_field}
 use Rattle.reflect_message.specs.Names.{DynamicMessage}
 use Rattle.reflect_message.specs.Present.{is_held}
 use Rattle.reflect_message.specs.Shown.{IsHeldOrDefault}
-use Rattle.print_parts.specs.Entries.{AreChosen, AreDeclared, AreOthers, Entry, IsArranged, IsByNumber, IsFieldOf, extension_entries, field, held_under, printed_fields, set_entries, undeclared}
+use Rattle.print_parts.specs.Entries.{AreDeclared, AreOthers, ArePrinted, Entry, IsFieldOf, extension_entries, field, held_under, printed_fields, set_entries}
 use Rattle.print_parts.specs.Pairwise.{Pairwise}
 use Rattle.text_lines.specs.declared.options.FormatOptions.{FormatOptions}
 use Rattle.message_view.proofs.Fields.{known}
 use Rattle.print_view.proofs.Alike.{AlikeHeld, Likeness, Within}
-use Rattle.print_view.proofs.AlikeRows.{AlikeEntries, AreAlike, both_rows, by_number, extends, extends_alike, one_field, records_alike, sets, sets_alike}
+use Rattle.print_view.proofs.AlikeParts.{all_declared, all_others, fields_alike, row_alike}
+use Rattle.print_view.proofs.AlikeRows.{AlikeEntries, AreAlike, extends, extends_alike, one_field, sets, sets_alike}
 use Rattle.print_view.proofs.Sorting.{all_filtered}
 
 -- the fields that are printed, by which of them are held
@@ -73,49 +74,27 @@ module _ (form : FormatOptions) (pool : PoolType) (levels : ℕ) (m n : DynamicM
       one_field pool f v w (is ∙ ap (λ p. field p f v) alike.first) (also ∙ ap (λ p. field p f w) alike.second)
       ((alike.fields f.number f there).values v w (subst (λ p. IsHeldOrDefault p f (held_under m f) v) alike.first one) (subst (λ p. IsHeldOrDefault p f (held_under n f) w) alike.second two))
 
-  fields_alike : (fs : List FieldType) → AllByRecursion (IsKnown pool i) fs → (ds es : List Entry) → Pairwise (IsFieldOf m) fs ds → Pairwise (IsFieldOf n) fs es → AreAlike A ds es
-  fields_alike [] each ds es none also = subst (λ l. AreAlike A l es) (sym none) also
-  fields_alike (f ∷ fs) each ds es (d, rest, one, more, is) (e, others, two, later, also) =
-      subst (λ l. AreAlike A l es) (sym is) (e, others, field_alike f each.0 d e one two, fields_alike fs each.1 rest others more later, also)
-
-  chosen_alike : (ds es : List Entry) → Pairwise (IsFieldOf m) (printed_fields form m) ds → Pairwise (IsFieldOf n) (printed_fields form n) es → AreAlike A ds es
+  chosen_alike : (ds es : List Entry) → ArePrinted form m ds → ArePrinted form n es → AreAlike A ds es
   chosen_alike ds es one two =
-      fields_alike (prints form pool i (holds m)) (all_filtered (IsKnown pool i) (has form (holds m)) (knows pool i) known_each) ds es
+      fields_alike A form m n (IsKnown pool i) field_alike (prints form pool i (holds m)) (all_filtered (IsKnown pool i) (has form (holds m)) (knows pool i) known_each) ds es
       (subst (λ fs. Pairwise (IsFieldOf m) fs ds) first_choice one) (subst (λ fs. Pairwise (IsFieldOf n) fs es) second_choice two)
 
-  row_alike : (xs ys ds es : List Entry) → AreAlike A xs ys → ds ≡ xs → es ≡ ys → AreAlike A ds es
-  row_alike xs ys ds es h one two = subst (λ l. AreAlike A l es) (sym one) (subst (AreAlike A xs) (sym two) h)
-
-  set_rows : (ds es : List Entry) → ds ≡ set_entries m → es ≡ set_entries n → AreAlike A ds es
-  set_rows ds es one two =
-      row_alike (sets pool i (fields_of m)) (sets pool i (fields_of n)) ds es (sets_alike A pool i (fields_of m) (fields_of n) alike.ordered.fields alike.order.fields alike.fields alike.unowned)
-      (one ∙ ap (λ p. sets p m.descriptor.index (fields_of m)) alike.first)
-      (two ∙ ap (λ p. sets p n.descriptor.index (fields_of n)) alike.second ∙ ap (λ k. sets pool k (fields_of n)) (sym alike.index))
+  set_rows : AreAlike A (set_entries m) (set_entries n)
+  set_rows =
+      row_alike A (sets pool i (fields_of m)) (sets pool i (fields_of n)) (set_entries m) (set_entries n)
+      (sets_alike A pool i (fields_of m) (fields_of n) alike.ordered.fields alike.order.fields alike.fields alike.unowned)
+      (ap (λ p. sets p m.descriptor.index (fields_of m)) alike.first)
+      (ap (λ p. sets p n.descriptor.index (fields_of n)) alike.second ∙ ap (λ k. sets pool k (fields_of n)) (sym alike.index))
 
   pub declared_alike : (ds es : List Entry) → AreDeclared form m ds → AreDeclared form n es → AreAlike A ds es
-  declared_alike ds es = by (form.skip_default_fields && not form.in_index_order) where
-    arranged : (b : Bool) (found others : List Entry) → AreAlike A found others → IsArranged b found ds → IsArranged b others es → AreAlike A ds es
-    arranged true found others h one two = row_alike found others ds es h one two
-    arranged false found others h one two = by_number A found ds others es h one two
+  declared_alike = all_declared A form m n set_rows chosen_alike
 
-    by : (b : Bool) → cond b (ds ≡ set_entries m) (AreChosen form m ds) → cond b (es ≡ set_entries n) (AreChosen form n es) → AreAlike A ds es
-    by true one two = set_rows ds es one two
-    by false (found, printed, one) (others, also, two) = arranged form.in_index_order found others (chosen_alike found others printed also) one two
-
-  -- extensions, and other records
   extension_rows : AreAlike A (extension_entries m) (extension_entries n)
   extension_rows =
-      row_alike (extends pool i (extensions_of m)) (extends pool i (extensions_of n)) (extension_entries m) (extension_entries n)
+      row_alike A (extends pool i (extensions_of m)) (extends pool i (extensions_of n)) (extension_entries m) (extension_entries n)
       (extends_alike A pool i (extensions_of m) (extensions_of n) alike.ordered.extensions alike.order.extensions alike.extensions)
       (ap (λ p. extends p m.descriptor.index (extensions_of m)) alike.first)
       (ap (λ p. extends p n.descriptor.index (extensions_of n)) alike.second ∙ ap (λ k. extends pool k (extensions_of n)) (sym alike.index))
 
   pub others_alike : (ds es : List Entry) → AreOthers form m ds → AreOthers form n es → AreAlike A ds es
-  others_alike ds es = by form.skip_unknown_fields where
-    by : (b : Bool) → cond b (ds ≡ extension_entries m) (IsByNumber (extension_entries m ++ map undeclared (unknown_of m)) ds)
-        → cond b (es ≡ extension_entries n) (IsByNumber (extension_entries n ++ map undeclared (unknown_of n)) es) → AreAlike A ds es
-    by true one two = row_alike (extension_entries m) (extension_entries n) ds es extension_rows one two
-    by false one two =
-        by_number A (extension_entries m ++ map undeclared (unknown_of m)) ds (extension_entries n ++ map undeclared (unknown_of n)) es
-        (subst (λ us. AreAlike A (extension_entries m ++ map undeclared (unknown_of m)) (extension_entries n ++ map undeclared us)) alike.unknown
-        (both_rows A (extension_entries m) (extension_entries n) (map undeclared (unknown_of m)) (map undeclared (unknown_of m)) extension_rows (records_alike A (unknown_of m)))) one two
+  others_alike = all_others A form m n extension_rows alike.unknown

@@ -55,6 +55,7 @@ mod SetSeen
 mod OneOrder
 mod Alike
 mod AlikeRows
+mod AlikeParts
 mod AlikeEntries
 mod AlikeSorts
 mod Wider

@@ -1,22 +1,22 @@
 -- Messages of one type that hold the same, wherever they lie in memory: what is printed of them is alike, entry by entry, whatever they hold.
-use Rattle.std.proofs.Common.{◌≡◌, ◌&&◌, ◌||◌, ◌++◌, ℕ, not, Bool, true, false, cond, List, [], ◌∷◌, map, Option, Some, None, option_map, refl, sym, ap, ◌∙◌, subst}
+use Rattle.std.proofs.Common.{◌≡◌, ◌&&◌, ◌||◌, ℕ, not, false, List, [], ◌∷◌, Option, Some, None, refl, sym, ap, ◌∙◌, subst}
 use Rattle.std.specs.List.{AllByRecursion, cons_option, filter, filter_map}
 use Rattle.reflect_tables.specs.Types.{FieldType, PoolType, type_at}
 use Rattle.reflect_pool.specs.declared.message.MessageDescriptor.{MessageDescriptor}
 use Rattle.reflect_entries.specs.Entries.{value_at}
-use Rattle.reflect_contents.specs.Walked.{Holding, set_extensions, set_fields}
 use Rattle.reflect_message.specs.Contents.{Content}
 use Rattle.reflect_message.specs.Held.{extensions_of, fields_of, unknown_of}
-use Rattle.reflect_message.specs.Known.{holds_floats, known_extension, known_field}
+use Rattle.reflect_message.specs.Known.{holds_floats, known_field}
 use Rattle.reflect_message.specs.Names.{DynamicMessage, Value}
 use Rattle.reflect_message.specs.Present.{is_held}
 use Rattle.reflect_message.specs.Shown.{IsHeldOrDefault}
-use Rattle.print_parts.specs.Entries.{AreChosen, AreDeclared, AreOthers, Entry, IsArranged, IsByNumber, IsFieldOf, extension, extension_entries, field, held_under, is_printed, known_fields, pool_of, printed_fields, set_entries, undeclared}
+use Rattle.print_parts.specs.Entries.{AreDeclared, AreOthers, ArePrinted, Entry, IsFieldOf, extension, extension_entries, field, held_under, is_printed, known_fields, pool_of, printed_fields, set_entries, undeclared}
 use Rattle.print_parts.specs.Pairwise.{Pairwise}
 use Rattle.text_lines.specs.declared.options.FormatOptions.{FormatOptions}
 use Rattle.message_view.proofs.Accepting.{known_whole}
 use Rattle.print_view.proofs.Alike.{AlikeValues, AreBare, FieldAlike, Likeness, alike_ones, none_alike, one_value, some_alike}
-use Rattle.print_view.proofs.AlikeRows.{AlikeEntries, AreAlike, by_number, one_extension, one_field, one_record}
+use Rattle.print_view.proofs.AlikeParts.{all_declared, all_others, fields_alike}
+use Rattle.print_view.proofs.AlikeRows.{AlikeEntries, AreAlike, extends, one_extension, one_field, one_record, sets}
 use Rattle.print_view.proofs.Sorting.{all_filtered}
 
 pub record AreSame (m n : DynamicMessage) : Type 0 where
@@ -62,17 +62,11 @@ themselves (e ∷ es) = (e, es, by e, themselves es, refl) where
 one_row : (ds es : List Entry) → ds ≡ es → AreAlike Same ds es
 one_row ds es same = subst (AreAlike Same ds) same (themselves ds)
 
--- what is set, what is printed of the fields, and what is set of the extensions, by a type and by what is held
-abbrev sets : PoolType → ℕ → List (ℕ × Value) → List Entry
-sets pool i es = map (λ (h : Holding). field pool h.0 h.1) (set_fields pool i es)
-
+-- what is printed of the fields, by a type and by what is held
 abbrev prints : FormatOptions → PoolType → ℕ → List (ℕ × Value) → List FieldType
 prints form pool i es =
     filter (λ (f : FieldType). (not form.skip_default_fields && not f.presence) || is_held pool f (value_at es f.number))
     (filter_map (λ (f : FieldType). known_field pool i f.number) (type_at pool i).fields)
-
-abbrev extends : PoolType → ℕ → List (ℕ × Value) → List Entry
-extends pool i es = filter_map (λ (h : Holding). option_map (λ f. extension pool f h.1) (known_extension pool i h.0.number)) (set_extensions pool i es)
 
 all_whole : (d : MessageDescriptor) (fs : List FieldType) → AllByRecursion (λ (f : FieldType). holds_floats d.pool.now f ≡ false) (filter_map (λ (f : FieldType). known_field d.pool.now d.index f.number) fs)
 all_whole d [] = tt
@@ -101,29 +95,12 @@ module _ (form : FormatOptions) (m n : DynamicMessage) (alike : AreSame m n) whe
       let its = subst (λ es. IsHeldOrDefault (pool_of m) f (value_at es f.number) w) (sym alike.fields) there in
       one_field (pool_of m) f v w is (also ∙ ap (λ p. field p f w) (sym alike.pool)) ((field_same (pool_of m) f whole (held_under m f)).values v w one its)
 
-  fields_alike : (fs : List FieldType) → AllByRecursion (λ (f : FieldType). holds_floats (pool_of m) f ≡ false) fs → (ds es : List Entry) → Pairwise (IsFieldOf m) fs ds → Pairwise (IsFieldOf n) fs es → AreAlike Same ds es
-  fields_alike [] whole ds es none also = subst (λ l. AreAlike Same l es) (sym none) also
-  fields_alike (f ∷ fs) whole ds es (d, rest, one, more, is) (e, others, two, later, also) =
-      subst (λ l. AreAlike Same l es) (sym is) (e, others, field_alike f whole.0 d e one two, fields_alike fs whole.1 rest others more later, also)
+  chosen_same : (ds es : List Entry) → ArePrinted form m ds → ArePrinted form n es → AreAlike Same ds es
+  chosen_same ds es one two =
+      fields_alike Same form m n (λ (f : FieldType). holds_floats (pool_of m) f ≡ false) field_alike (printed_fields form m) whole_choice ds es one (subst (λ fs. Pairwise (IsFieldOf n) fs es) (sym one_choice) two)
 
   pub same_declared : (ds es : List Entry) → AreDeclared form m ds → AreDeclared form n es → AreAlike Same ds es
-  same_declared ds es = by (form.skip_default_fields && not form.in_index_order) where
-    arranged : (b : Bool) (found others : List Entry) → AreAlike Same found others → IsArranged b found ds → IsArranged b others es → AreAlike Same ds es
-    arranged true found others h one two = subst (λ l. AreAlike Same l es) (sym one) (subst (AreAlike Same found) (sym two) h)
-    arranged false found others h one two = by_number Same found ds others es h one two
-
-    by : (b : Bool) → cond b (ds ≡ set_entries m) (AreChosen form m ds) → cond b (es ≡ set_entries n) (AreChosen form n es) → AreAlike Same ds es
-    by true one two = one_row ds es (one ∙ one_set ∙ sym two)
-    by false (found, printed, one) (others, also, two) =
-        arranged form.in_index_order found others
-        (fields_alike (printed_fields form m) whole_choice found others printed (subst (λ fs. Pairwise (IsFieldOf n) fs others) (sym one_choice) also)) one two
+  same_declared = all_declared Same form m n (one_row (set_entries m) (set_entries n) one_set) chosen_same
 
   pub same_others : (ds es : List Entry) → AreOthers form m ds → AreOthers form n es → AreAlike Same ds es
-  same_others ds es = by form.skip_unknown_fields where
-    by : (b : Bool) → cond b (ds ≡ extension_entries m) (IsByNumber (extension_entries m ++ map undeclared (unknown_of m)) ds)
-        → cond b (es ≡ extension_entries n) (IsByNumber (extension_entries n ++ map undeclared (unknown_of n)) es) → AreAlike Same ds es
-    by true one two = one_row ds es (one ∙ one_extended ∙ sym two)
-    by false one two =
-        by_number Same (extension_entries m ++ map undeclared (unknown_of m)) ds (extension_entries n ++ map undeclared (unknown_of n)) es
-        (one_row (extension_entries m ++ map undeclared (unknown_of m)) (extension_entries n ++ map undeclared (unknown_of n)) (λ i. one_extended i ++ map undeclared (alike.unknown i)))
-        one two
+  same_others = all_others Same form m n (one_row (extension_entries m) (extension_entries n) one_extended) alike.unknown
