@@ -37,6 +37,10 @@ pub mod Given
 pub mod Into
 pub mod SetAlong
 pub mod SameMeaning
+pub mod TwinPools
+pub mod TwinFields
+pub mod TwinKinds
+pub mod TwinReading
 pub mod OneTarget
 pub mod MapTwice
 pub mod SetTwice
@@ -53,11 +57,13 @@ pub mod Placed
 pub mod Entries
 pub mod LooksUp
 pub mod SameScopes
-pub mod RefusedFiles
 pub mod Pool
 pub mod OneName
 pub mod Numbers
 pub mod Led
+pub mod Reworded
+pub mod TwinBatches
+pub mod RefusedFiles
 pub mod OneNumber
 pub mod Leads
 pub mod FurtherBatches

@@ -1,13 +1,13 @@
 -- Into maps that are seen alike entries are put that are seen alike: what is seen behind is one too,
 -- whatever keys stand there.
-use Rattle.std.proofs.Common.{◌≡◌, inl, inr, ℕ, ℤ, suc, true, List, [], ◌∷◌, Some, MatchOption, Ordering, Less, Equal, Greater, refl, sym, ap, ◌∙◌, subst}
+use Rattle.std.proofs.Common.{◌≡◌, inl, inr, ℕ, ℤ, suc, true, List, [], ◌∷◌, Option, Some, MatchOption, Ordering, Less, Equal, Greater, refl, sym, ap, ◌∙◌, subst}
 use Rattle.std.specs.BTreeMap.{insert_entry}
 use Rattle.std.specs.Cmp.Lexicographic.{slice_cmp}
 use Rattle.std.specs.Ordering.{bool_cmp, int_cmp, match_ordering, nat_cmp}
 use Rattle.descriptor_records.specs.Content.{OptionContent}
 use Rattle.message_view.specs.Shaped.{Exclusive}
 use Rattle.message_view.specs.Sound.{IsSound}
-use Rattle.message_view.specs.Types.{entry_part, field_at, key_of, part_of}
+use Rattle.message_view.specs.Types.{entry_part, field_at, key_of, name_at, part_of, types_of}
 use Rattle.message_view.specs.Views.{content_view, view}
 use Rattle.message_view.proofs.Entries.{entry_of_map, map_held, part_is}
 use Rattle.message_view.proofs.Keys.{form_of, key_single}
@@ -15,6 +15,7 @@ use Rattle.message_view.proofs.Seen.{message_seen, pairs_view}
 use Rattle.option_setter.specs.OptionValues.{IsSaid}
 use Rattle.option_setter.specs.SetOptions.{PutsSaid, SetsLast}
 use Rattle.protobuf_model.specs.Meaning.{if_some, pairs}
+use Rattle.protobuf_model.specs.Types.{Field, Key, Part}
 use Rattle.protobuf_model.specs.Values.{Content, Message, Single, int32, int64, message, text, truth, uint32, uint64}
 use Rattle.protobuf_model.proofs.Pieces.{pairs-if_some}
 use Rattle.reflect_extend.specs.Gives.{Entry, GivesIn}
@@ -37,7 +38,7 @@ use Rattle.reflect_tables.specs.Types.{FieldType, PoolType, type_of_field}
 use Rattle.reflect_tables.specs.Types as types
 use Rattle.text_model.specs.Value.{assign, entry_of}
 use Rattle.text_view.specs.Holds.{AreHeldAs}
-use Rattle.text_view.proofs.Adds.{changed}
+use Rattle.text_view.proofs.Adds.{changed, types_are}
 use Rattle.text_view.proofs.Entries.{key_numbered, value_numbered}
 use Rattle.text_view.proofs.Given.{entry_kind, the_entry, value_no_float}
 use Rattle.text_view.proofs.Gives.{entry_given}
@@ -98,21 +99,21 @@ inserted_alike (e ∷ es) (f ∷ fs) k l u v is key value =
 
 -- ---- what is put into a map, as it is seen
 
--- the content's entry is put into a map of the type at a place, over an entry of an equal key
-pub record PutsEntry (pool : PoolType) (i : ℕ) (f : FieldType) (c : Content) (old new : Message) : Type 0 where
+-- the content's entry is put into a map under a number of a type, over an entry of an equal key
+pub record PutsEntry (type : ℕ → Option Field) (n : ℕ) (of_key : Key) (part : Part) (c : Content) (old new : Message) : Type 0 where
   pub before : List Entry
   pub key : MapKey
   pub value : Value
-  pub stood : pairs (old f.number) ≡ pairs_view before
-  pub entry : entry_of (key_of pool (entry_part pool f 1)) (part_of pool (entry_part pool f 2)) c ≡ (key_single key, content_view value)
-  pub put : new ≡ assign (field_at pool i) f.number (if_some (pairs_view (insert_entry ghosts.cmp before key value))) old
+  pub stood : pairs (old n) ≡ pairs_view before
+  pub entry : entry_of of_key part c ≡ (key_single key, content_view value)
+  pub put : new ≡ assign type n (if_some (pairs_view (insert_entry ghosts.cmp before key value))) old
 
 -- what is seen behind is one
-pub one_map : (pool : PoolType) (i : ℕ) (f : FieldType) (c : Content) (old new other : Message) → PutsEntry pool i f c old new → PutsEntry pool i f c old other → new ≡ other
-one_map pool i f c old new other a b =
+pub one_map : (type : ℕ → Option Field) (n : ℕ) (of_key : Key) (part : Part) (c : Content) (old new other : Message) → PutsEntry type n of_key part c old new → PutsEntry type n of_key part c old other → new ≡ other
+one_map type n of_key part c old new other a b =
     let same : ◌≡◌ {A = Single × Content} (key_single a.key, content_view a.value) (key_single b.key, content_view b.value) = sym a.entry ∙ b.entry in
     a.put
-    ∙ ap (λ ps. assign (field_at pool i) f.number (if_some ps) old)
+    ∙ ap (λ ps. assign type n (if_some ps) old)
     (inserted_alike a.before b.before a.key b.key a.value b.value (sym a.stood ∙ b.stood) (ap (λ (p : Single × Content). p.0) same) (ap (λ (p : Single × Content). p.1) same))
     ∙ sym b.put
 
@@ -134,8 +135,14 @@ module _ (o : OptionContent) (levels : ℕ) (old new : DynamicMessage)
   kind : IsKind pool sets.put.0 f.kind
   kind = subst (λ p. IsKind p sets.put.0 f.kind) (pool_is d sound.apart t owns) sets.put.1
 
+  abbrev Puts : Type 0
+  Puts = PutsEntry (types_of old.descriptor.pool.now (name_at old.descriptor.pool.now old.descriptor.index)) f.number (key_of pool (entry_part pool f 1)) (part_of pool (entry_part pool f 2)) (content_view v) (view old) (view new)
+
+  same_fields : types_of old.descriptor.pool.now (name_at old.descriptor.pool.now old.descriptor.index) ≡ field_at old.descriptor.pool.now old.descriptor.index
+  same_fields = types_are old.descriptor.pool.now sound.names old.descriptor refl
+
   -- the message that an option says is the entry
-  put_so : AddsValues t (v ∷ []) old new → PutsEntry pool d.index f (content_view v) (view old) (view new)
+  put_so : AddsValues t (v ∷ []) old new → Puts
   put_so adds =
       let c = entry_kind pool sets.put.0 f.kind kind (entry_of_map pool f is_map) in
       let made = subst (λ k. IsSaid k o v) c.1 sets.put.3 in
@@ -169,13 +176,16 @@ module _ (o : OptionContent) (levels : ℕ) (old new : DynamicMessage)
         value = p.1;
         stood = ap pairs (under_target d sound.apart t owns old refl ∙ sym (map_held pool f (held_by old t) stood.0 stood.1)) ∙ pairs-if_some (pairs_view stood.0);
         entry = (λ i. entry_of (key i) (part i) (seen i)) ∙ p.3;
-        put = changed old new sound.apart sets.same_type shape.1 t (v ∷ []) owns (adds.5 (many_map t whole_map)) adds (if_some (pairs_view puts.0)) (sym (map_held pool f (held_by new t) puts.0 puts.1))
-            ∙ ap (λ es. assign (field_at pool d.index) f.number (if_some (pairs_view es)) (view old)) {y = insert_entry ghosts.cmp stood.0 p.0 p.1} after;
+        put = subst (λ fs. view new ≡ assign fs f.number (if_some (pairs_view (insert_entry ghosts.cmp stood.0 p.0 p.1))) (view old)) (sym same_fields)
+            (changed old new sound.apart sets.same_type shape.1 t (v ∷ []) owns (adds.5 (many_map t whole_map)) adds (if_some (pairs_view puts.0)) (sym (map_held pool f (held_by new t) puts.0 puts.1))
+            ∙ ap (λ es. assign (field_at pool d.index) f.number (if_some (pairs_view es)) (view old)) {y = insert_entry ghosts.cmp stood.0 p.0 p.1} after);
       }
 
   -- what the last part of a name puts into a map
-  pub entry_put : PutsEntry old.descriptor.pool.now old.descriptor.index (target_type t) (content_view sets.put.2) (view old) (view new)
+  pub entry_put : PutsEntry (types_of old.descriptor.pool.now (name_at old.descriptor.pool.now old.descriptor.index)) (target_type t).number
+      (key_of old.descriptor.pool.now (entry_part old.descriptor.pool.now (target_type t) 1)) (part_of old.descriptor.pool.now (entry_part old.descriptor.pool.now (target_type t) 2))
+      (content_view sets.put.2) (view old) (view new)
   entry_put = by sets.put.4 where
-    by : PutsSaid t v old new → PutsEntry pool d.index f (content_view v) (view old) (view new)
+    by : PutsSaid t v old new → Puts
     by (inl (one, unset, puts)) = absurd (cc (sym one ∙ many_map t (target_map d sound t owns is_map)))
     by (inr (many, adds)) = put_so adds

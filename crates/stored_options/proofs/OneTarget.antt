@@ -1,5 +1,5 @@
--- A part of an option's name leads to one field or extension, wherever the descriptors of its type lie
--- in memory, and not to one and to none.
+-- A part of an option's name leads to fields or extensions of one number in types of one name, in two pools that say the
+-- same to texts, and not to one in the one and to none in the other.
 use Rattle.std.proofs.Common.{◌≡◌, inl, inr, ℕ, Bool, true, false, Option, None, Some, sym, ap, ◌∙◌, subst}
 use Rattle.std.specs.Prelude.{MatchBool, string_bytes}
 use Rattle.descriptor_records.specs.declared.options.NamePart.{NamePart}
@@ -8,7 +8,7 @@ use Rattle.option_parts.specs.declared.option_error.OptionErrorKind.TheVariants 
 use Rattle.option_setter.specs.OptionNames.{FindsOwn, LacksExtension, LacksField, LacksTarget, MeansExtension, MeansNone, NamesExtension, NamesField, NamesTarget}
 use Rattle.option_setter.specs.declared.option_setter.NameScope.{NameScope}
 use Rattle.protox_lex.specs.Class.{Text}
-use Rattle.reflect_format.specs.Takes.{target_pool, target_type}
+use Rattle.reflect_format.specs.Takes.{target_type}
 use Rattle.reflect_format.specs.declared.target.Target.{Target}
 use Rattle.reflect_format.specs.declared.target.Target.TheVariants as targets
 use Rattle.reflect_pool.specs.FieldsLeft.{field_type}
@@ -19,26 +19,16 @@ use Rattle.reflect_scalar.specs.FieldTypes.{extension_type}
 use Rattle.reflect_tables.specs.Finding.{IsFirst}
 use Rattle.reflect_tables.specs.Types.{ExtensionType, FieldType, PoolType, extension_at, no_extension, no_field, type_at, type_of_field}
 use Rattle.reflect_tables.proofs.Firsts.{one_first}
+use Rattle.stored_options.proofs.TwinPools.{AreTwinPools, called_there, extension_number, field_number, own_there}
 
 -- in both scopes a name in parentheses means one extension, if any
 pub record NameAlike (s t : NameScope) : Type 0 where
   pub one : (name x y : Text) → MeansExtension s name x → MeansExtension t name y → x ≡ y
   pub none : (name y : Text) → MeansNone s name → MeansExtension t name y → ⊥
 
--- ---- the pool that a target stands in
-
-its_pool : (s : NameScope) (d : MessageDescriptor) (b : Bool) (name : Text) (x : Target) → MatchBool b (NamesExtension s d name x) (NamesField d name x) → target_pool x ≡ d.pool.now
-its_pool s d true name (targets.Field f) h = absurd h
-its_pool s d true name (targets.Extension x) h = h.0
-its_pool s d false name (targets.Field f) h = ap (λ (m : MessageDescriptor). m.pool.now) h.0
-its_pool s d false name (targets.Extension x) h = absurd h
-
-pub named_pool : (s : NameScope) (d : MessageDescriptor) (part : NamePart) (x : Target) → NamesTarget s d part x → target_pool x ≡ d.pool.now
-named_pool s d part x h = its_pool s d part.is_extension (string_bytes part.name_part) x h
-
 -- ---- of two descriptors of one type
 
-module _ (s t : NameScope) (alike : NameAlike s t) (d e : MessageDescriptor) (pool : d.pool.now ≡ e.pool.now) (index : d.index ≡ e.index) where
+module _ (s t : NameScope) (alike : NameAlike s t) (d e : MessageDescriptor) (twins : AreTwinPools d.pool.now e.pool.now) (index : d.index ≡ e.index) where
   abbrev IsCalled : Text → FieldType → Type 0
   IsCalled name f = f.name ≡ name
 
@@ -46,33 +36,33 @@ module _ (s t : NameScope) (alike : NameAlike s t) (d e : MessageDescriptor) (po
   IsOwn i full x = (x.extendee ≡ i) × (x.field.full_name ≡ full)
 
   -- what is found of the one is found of the other
-  called_there : (name : Text) (o : Option ℕ) → IsFirst (IsCalled name) (type_at d.pool.now d.index).fields o → IsFirst (IsCalled name) (type_at e.pool.now e.index).fields o
-  called_there name o h =
-      subst (λ i. IsFirst (IsCalled name) (type_at e.pool.now i).fields o) index
-      (subst (λ p. IsFirst (IsCalled name) (type_at p d.index).fields o) pool h)
+  its_called : (name : Text) (o : Option ℕ) → IsFirst (IsCalled name) (type_at d.pool.now d.index).fields o → IsFirst (IsCalled name) (type_at e.pool.now e.index).fields o
+  its_called name o h = called_there d.pool.now e.pool.now twins d.index e.index index name o h
 
-  own_there : (full : Text) (o : Option ℕ) → IsFirst (IsOwn d.index full) d.pool.now.extensions o → IsFirst (IsOwn e.index full) e.pool.now.extensions o
-  own_there full o h =
-      subst (λ i. IsFirst (IsOwn i full) e.pool.now.extensions o) index
-      (subst (λ (p : PoolType). IsFirst (IsOwn d.index full) p.extensions o) pool h)
+  its_own : (full : Text) (o : Option ℕ) → IsFirst (IsOwn d.index full) d.pool.now.extensions o → IsFirst (IsOwn e.index full) e.pool.now.extensions o
+  its_own full o h = own_there d.pool.now e.pool.now twins d.index e.index index full o h
 
-  one_field : (name : Text) (f g : FieldDescriptor) → NamesField d name (targets.Field f) → NamesField e name (targets.Field g) → field_type f ≡ field_type g
+  one_field : (name : Text) (f g : FieldDescriptor) → NamesField d name (targets.Field f) → NamesField e name (targets.Field g) → (field_type f).number ≡ (field_type g).number
   one_field name f g (own, first) (also, other) =
-      let place : f.index ≡ g.index = one_first (IsCalled name) (type_at e.pool.now e.index).fields no_field f.index g.index (called_there name (Some f.index) first) other in
-      ap (λ (m : MessageDescriptor). type_of_field m.pool.now m.index f.index) own
-      ∙ ap (λ p. type_of_field p d.index f.index) pool ∙ ap (λ i. type_of_field e.pool.now i f.index) index ∙ ap (type_of_field e.pool.now e.index) place
-      ∙ sym (ap (λ (m : MessageDescriptor). type_of_field m.pool.now m.index g.index) also)
+      let place : f.index ≡ g.index = one_first (IsCalled name) (type_at e.pool.now e.index).fields no_field f.index g.index (its_called name (Some f.index) first) other in
+      ap (λ (m : MessageDescriptor). (type_of_field m.pool.now m.index f.index).number) own
+      ∙ field_number d.pool.now e.pool.now twins d.index e.index index f.index
+      ∙ ap (λ k. (type_of_field e.pool.now e.index k).number) place
+      ∙ sym (ap (λ (m : MessageDescriptor). (type_of_field m.pool.now m.index g.index).number) also)
 
-  one_extension : (name : Text) (x y : ExtensionDescriptor) → NamesExtension s d name (targets.Extension x) → NamesExtension t e name (targets.Extension y) → extension_type x ≡ extension_type y
+  one_extension : (name : Text) (x y : ExtensionDescriptor) → NamesExtension s d name (targets.Extension x) → NamesExtension t e name (targets.Extension y)
+      → (extension_type x).number ≡ (extension_type y).number
   one_extension name x y (in_pool, full, means, first) (also, other, means_too, second) =
       let same : full ≡ other = alike.one name full other means means_too in
-      let moved = subst (λ n. IsFirst (IsOwn e.index n) e.pool.now.extensions (Some x.index)) same (own_there full (Some x.index) first) in
+      let moved = subst (λ n. IsFirst (IsOwn e.index n) e.pool.now.extensions (Some x.index)) same (its_own full (Some x.index) first) in
       let place : x.index ≡ y.index = one_first (IsOwn e.index other) e.pool.now.extensions no_extension x.index y.index moved second in
-      ap (λ (p : PoolType). (extension_at p x.index).field) (in_pool ∙ pool) ∙ ap (λ i. (extension_at e.pool.now i).field) place
-      ∙ sym (ap (λ (p : PoolType). (extension_at p y.index).field) also)
+      ap (λ (p : PoolType). (extension_at p x.index).field.number) in_pool
+      ∙ extension_number d.pool.now e.pool.now twins x.index
+      ∙ ap (λ k. (extension_at e.pool.now k).field.number) place
+      ∙ sym (ap (λ (p : PoolType). (extension_at p y.index).field.number) also)
 
   one_of_name : (b : Bool) (name : Text) (x y : Target) → MatchBool b (NamesExtension s d name x) (NamesField d name x)
-      → MatchBool b (NamesExtension t e name y) (NamesField e name y) → target_type x ≡ target_type y
+      → MatchBool b (NamesExtension t e name y) (NamesField e name y) → (target_type x).number ≡ (target_type y).number
   one_of_name true name (targets.Extension x) (targets.Extension y) h k = one_extension name x y h k
   one_of_name true name (targets.Field f) y h k = absurd h
   one_of_name true name (targets.Extension x) (targets.Field g) h k = absurd k
@@ -80,20 +70,20 @@ module _ (s t : NameScope) (alike : NameAlike s t) (d e : MessageDescriptor) (po
   one_of_name false name (targets.Extension x) y h k = absurd h
   one_of_name false name (targets.Field f) (targets.Extension y) h k = absurd k
 
-  pub one_target : (part : NamePart) (x y : Target) → NamesTarget s d part x → NamesTarget t e part y → target_type x ≡ target_type y
+  pub one_target : (part : NamePart) (x y : Target) → NamesTarget s d part x → NamesTarget t e part y → (target_type x).number ≡ (target_type y).number
   one_target part x y h k = one_of_name part.is_extension (string_bytes part.name_part) x y h k
 
   -- ---- it does not lead to none
 
   no_field_called : (name : Text) (k : OptionErrorKind) (y : Target) → LacksField d name k → NamesField e name y → ⊥
-  no_field_called name (kinds.OptionNotFound n) (targets.Field g) lacks (own, first) = called_there name None lacks g.index no_field first.0 (first.1.0 no_field)
+  no_field_called name (kinds.OptionNotFound n) (targets.Field g) lacks (own, first) = its_called name None lacks g.index no_field first.0 (first.1.0 no_field)
   no_field_called name (kinds.OptionNotFound n) (targets.Extension y) lacks named = named
   no_field_called name k y lacks named = absurd lacks
 
   none_own : (name full : Text) (y : ExtensionDescriptor) → MeansExtension s name full → FindsOwn d full None → NamesExtension t e name (targets.Extension y) → ⊥
   none_own name full y means lacks (also, other, means_too, second) =
       let same : full ≡ other = alike.one name full other means means_too in
-      let none = subst (λ n. IsFirst (IsOwn e.index n) e.pool.now.extensions None) same (own_there full None lacks) in
+      let none = subst (λ n. IsFirst (IsOwn e.index n) e.pool.now.extensions None) same (its_own full None lacks) in
       none y.index no_extension second.0 (second.1.0 no_extension)
 
   no_extension_meant : (name : Text) (k : OptionErrorKind) (y : Target) → LacksExtension s d name k → NamesExtension t e name y → ⊥

@@ -1,5 +1,6 @@
--- Options that are refused are not settled, nor do they stay as they are.
-use Rattle.std.proofs.Common.{◌≡◌, ◌≢◌, ◌⊎◌, inl, inr, ℕ, ℤ, suc, true, false, List, Option, None, Some, refl, sym, ap, ◌∙◌, subst, arith}
+-- Options that are refused are not settled, nor do they stay as they are, in that pool or in another that says the same to
+-- texts.
+use Rattle.std.proofs.Common.{◌≡◌, ◌≢◌, ◌⊎◌, inl, inr, ℕ, ℤ, suc, true, false, List, map, Option, None, Some, refl, sym, ap, ◌∙◌, subst, arith}
 use Rattle.std.proofs.lemmas.Bool.Decides.{eqb_tells}
 use Rattle.std.specs.Option.{unwrap_or}
 use Rattle.std.specs.Prelude.{IfSome, codes}
@@ -46,6 +47,7 @@ use Rattle.stored_options.proofs.OneTarget.{NameAlike}
 use Rattle.stored_options.proofs.Refusals.{forbidden_there, none_there}
 use Rattle.stored_options.proofs.Scoped.{option_type, type_sound}
 use Rattle.stored_options.proofs.SetTwice.{AreTwins, all_twice}
+use Rattle.stored_options.proofs.TwinPools.{AreTwinPools, message_there, name_same, outline, twins_moved, types_same}
 use Rattle.stored_options.proofs.EachStep.{above}
 use Rattle.stored_options.proofs.ShapeAlong.{all_shape}
 use Rattle.stored_options.proofs.Shapes.{left_shape, unset_so}
@@ -112,62 +114,50 @@ no_such_type : (p : PoolType) (name : List ℕ) (d : MessageDescriptor) → Find
 no_such_type p name d none some = none d.index no_type some.0 (some.1.0 no_type)
 
 -- what is found in the one pool is found in the other
-found_there : (scope : OptionScope) (s t : NameScope) → s.pool.now ≡ t.pool.now → (found : Option MessageDescriptor) → FindsMessage s.pool.now (type_name scope) found → FindsMessage t.pool.now (type_name scope) found
-found_there scope s t one_pool found h = subst (λ p. FindsMessage p (type_name scope) found) one_pool h
+found_there : (p q : PoolType) → map outline p.messages ≡ map outline q.messages → (scope : OptionScope) (found : Option MessageDescriptor)
+    → FindsMessage p (type_name scope) found → FindsMessage q (type_name scope) found
+found_there p q same scope None h = message_there p q same (without_dot (type_name scope)) None h
+found_there p q same scope (Some d) h = message_there p q same (without_dot (type_name scope)) (Some d.index) h
 
-pub not_left : (scope : OptionScope) (s t : NameScope) → s.pool.now ≡ t.pool.now → (o : Options) (at : Option ℕ) (k : OptionErrorKind) → RefusesOptions scope s o at k → StayAsTheyAre scope t o → ⊥
-not_left scope s t one_pool o at k (inl forbidden) stay =
+pub not_left : (scope : OptionScope) (s t : NameScope) → map outline s.pool.now.messages ≡ map outline t.pool.now.messages → (o : Options) (at : Option ℕ) (k : OptionErrorKind)
+    → RefusesOptions scope s o at k → StayAsTheyAre scope t o → ⊥
+not_left scope s t same o at k (inl forbidden) stay =
     let x = forbidden_there scope o at k forbidden in
     none_there x.0 o.uninterpreted_option.items x.1 stay.1 x.2
-not_left scope s t one_pool o at k (inr (finds, inl lacks)) stay = lacks.1 stay.1
-not_left scope s t one_pool o at k (inr (finds, inr (d, its, why))) stay = no_such_type t.pool.now (type_name scope) d stay.0 (found_there scope s t one_pool (Some d) its.1)
+not_left scope s t same o at k (inr (finds, inl lacks)) stay = lacks.1 stay.1
+not_left scope s t same o at k (inr (finds, inr (d, its, why))) stay = no_such_type t.pool.now (type_name scope) d stay.0 (found_there s.pool.now t.pool.now same scope (Some d) its.1)
 
-module _ (scope : OptionScope) (s t : NameScope) (alike : NameAlike s t) (one_pool : s.pool.now ≡ t.pool.now) (sound : IsSound t.pool.now) (can : CanRead t.pool.now scope) (o : Options) where
-  abbrev pool : PoolType
-  pool = t.pool.now
-
-  s_sound : IsSound s.pool.now
-  s_sound = subst IsSound (sym one_pool) sound
-
-  s_can : CanRead s.pool.now scope
-  s_can = subst (λ p. CanRead p scope) (sym one_pool) can
-
+module _ (scope : OptionScope) (s t : NameScope) (alike : NameAlike s t) (twins : AreTwinPools s.pool.now t.pool.now) (can : CanRead s.pool.now scope) (can_too : CanRead t.pool.now scope) (o : Options) where
   module _ (d e : MessageDescriptor) (its : IsType scope s d) (also : IsType scope t e) where
-    its_pool : d.pool.now ≡ pool
-    its_pool = its.0 ∙ one_pool
-
-    pools : d.pool.now ≡ e.pool.now
-    pools = its_pool ∙ sym also.0
+    pools : AreTwinPools d.pool.now e.pool.now
+    pools = twins_moved s.pool.now t.pool.now d.pool.now e.pool.now its.0 also.0 twins
 
     index : d.index ≡ e.index
-    index = one_first (λ (m : MessageType). m.full_name ≡ without_dot (type_name scope)) pool.messages no_type d.index e.index (found_there scope s t one_pool (Some d) its.1) also.1
-
-    d_sound : IsSound d.pool.now
-    d_sound = its_sound scope s s_sound s_can o d its
+    index =
+        one_first (λ (m : MessageType). m.full_name ≡ without_dot (type_name scope)) t.pool.now.messages no_type d.index e.index
+        (found_there s.pool.now t.pool.now twins.messages scope (Some d) its.1) also.1
 
     -- what the bytes spell
-    stored_twins : (m n : DynamicMessage) → IsStored scope d o m → IsStored scope e o n → AreTwins pool m n
+    stored_twins : (m n : DynamicMessage) → IsStored scope d o m → IsStored scope e o n → AreTwins m n
     stored_twins m n a b = record {
-      first = ap (λ (c : MessageDescriptor). c.pool.now) a.0 ∙ its_pool;
-      second = ap (λ (c : MessageDescriptor). c.pool.now) b.0 ∙ also.0;
+      pools = twins_moved d.pool.now e.pool.now m.descriptor.pool.now n.descriptor.pool.now (ap (λ (c : MessageDescriptor). c.pool.now) a.0) (ap (λ (c : MessageDescriptor). c.pool.now) b.0) pools;
       index = ap (λ (c : MessageDescriptor). c.index) a.0 ∙ index ∙ sym (ap (λ (c : MessageDescriptor). c.index) b.0);
-      seen = spelled_twice d e pools index d_sound o.encoded.items m n a.0 b.0 a.1 b.1;
+      seen = spelled_twice d e pools index o.encoded.items m n a.0 b.0 a.1 b.1;
     }
 
     -- of a message what it says of entries
     entry_agrees : scope ≡ scopes.Message → (m n : DynamicMessage) → m.descriptor ≡ d → n.descriptor ≡ e → IsSpelled d o.encoded.items m → IsSpelled e o.encoded.items n
         → truth_said 7 m ≡ truth_said 7 n
     entry_agrees message m n of too h k =
-        let e_sound = its_sound scope t sound can o e also in
-        let has = subst (λ c. IfSome (typed_option c) (λ t. HasField d.pool.now d.index t.1 (IsTruthValue t.0))) message (option_type scope s d its s_can).typed in
-        let have = subst (λ c. IfSome (typed_option c) (λ t. HasField e.pool.now e.index t.1 (IsTruthValue t.0))) message (option_type scope t e also can).typed in
-        truth_seen d d_sound 7 (codes "map_entry") has.0 has.1 has.2 m of (stored_plain d o.encoded.items m h d_sound 7 has.0 has.1 has.2.truth has.2.presence)
-        ∙ ap (λ (v : Message). seen_truth (v 7)) (spelled_twice d e pools index d_sound o.encoded.items m n of too h k)
-        ∙ sym (truth_seen e e_sound 7 (codes "map_entry") have.0 have.1 have.2 n too (stored_plain e o.encoded.items n k e_sound 7 have.0 have.1 have.2.truth have.2.presence))
+        let has = subst (λ c. IfSome (typed_option c) (λ t. HasField d.pool.now d.index t.1 (IsTruthValue t.0))) message (option_type scope s d its can).typed in
+        let have = subst (λ c. IfSome (typed_option c) (λ t. HasField e.pool.now e.index t.1 (IsTruthValue t.0))) message (option_type scope t e also can_too).typed in
+        truth_seen d pools.sound 7 (codes "map_entry") has.0 has.1 has.2 m of (stored_plain d o.encoded.items m h pools.sound 7 has.0 has.1 has.2.truth has.2.presence)
+        ∙ ap (λ (v : Message). seen_truth (v 7)) (spelled_twice d e pools index o.encoded.items m n of too h k)
+        ∙ sym (truth_seen e pools.also 7 (codes "map_entry") have.0 have.1 have.2 n too (stored_plain e o.encoded.items n k pools.also 7 have.0 have.1 have.2.truth have.2.presence))
 
     module _ (n : DynamicMessage) (b : IsStored scope e o n) where
       refuses_stored : (c : OptionScope) → scope ≡ c → (k : OptionErrorKind) → RefusesStored c d o k → ⊥
-      refuses_stored c is (kinds.UndecodableOptions (Some w)) h = not_told d e pools index d_sound o.encoded.items n b.1 w h.0 h.1
+      refuses_stored c is (kinds.UndecodableOptions (Some w)) h = not_told d e pools index o.encoded.items n b.1 w h.0 h.1
       refuses_stored scopes.Message is (kinds.UndecodableOptions None) h =
           let agrees : AgreesOnEntries scopes.Message o n = subst (λ c. AgreesOnEntries c o n) is b.2 in
           h.3 (ap (λ t. unwrap_or t false) (entry_agrees is h.0 n h.1 b.0 h.2 b.1) ∙ agrees)
@@ -175,18 +165,18 @@ module _ (scope : OptionScope) (s t : NameScope) (alike : NameAlike s t) (one_po
 
     -- what is written
     module _ (whole other : DynamicMessage) (paths ways : List (List ℤ)) (a : IsWhole scope s d o whole paths) (b : IsWhole scope t e o other ways) where
-      set_twins : AreTwins pool a.1 b.1
+      set_twins : AreTwins a.1 b.1
       set_twins =
-          all_twice s t alike pool sound o.uninterpreted_option.items a.0 b.0 a.1 b.1 paths ways (stored_twins a.0 b.0 a.2 b.2)
-          (stored_shape scope s s_sound s_can o d its a.0 a.2) (stored_shape scope t sound can o e also b.0 b.2) a.3 b.3
+          all_twice s t alike o.uninterpreted_option.items a.0 b.0 a.1 b.1 paths ways (stored_twins a.0 b.0 a.2 b.2)
+          (stored_shape scope s twins.sound can o d its a.0 a.2) (stored_shape scope t twins.also can_too o e also b.0 b.2) a.3 b.3
 
       whole_seen : view whole ≡ view other
       whole_seen = fun_ext (λ n. by n (eqb_tells n 999)) where
         gone : IsUnset 999 (view a.1) (view whole)
-        gone = list_gone scope s s_sound s_can o d its whole paths a
+        gone = list_gone scope s twins.sound can o d its whole paths a
 
         gone_too : IsUnset 999 (view b.1) (view other)
-        gone_too = list_gone scope t sound can o e also other ways b
+        gone_too = list_gone scope t twins.also can_too o e also other ways b
 
         by : {A B : Type 0} → (n : ℕ) → (A × (n ≡ 999)) ⊎ (B × (n ≡ 999 → ⊥)) → view whole n ≡ view other n
         by n (inl (_, same)) = ap (view whole) same ∙ gone.here ∙ sym gone_too.here ∙ ap (view other) (sym same)
@@ -194,15 +184,15 @@ module _ (scope : OptionScope) (s t : NameScope) (alike : NameAlike s t) (one_po
 
       same_bytes : message_bytes whole ≡ message_bytes other
       same_bytes =
-          whole_written scope s s_sound s_can o d its whole paths a
-          ∙ (λ i. bytes_of (types_of (pools i)) (name_at (pools i) (index i)) (whole_seen i))
-          ∙ sym (whole_written scope t sound can o e also other ways b)
+          whole_written scope s twins.sound can o d its whole paths a
+          ∙ (λ i. bytes_of (types_same d.pool.now e.pool.now pools i) (name_same d.pool.now e.pool.now pools d.index e.index index i) (whole_seen i))
+          ∙ sym (whole_written scope t twins.also can_too o e also other ways b)
 
       unlike : (w : WireError) → w ≢ errors.Memory → TellsWhy whole.descriptor (message_bytes whole) w → IsReadBack other → ⊥
       unlike w differs why (back, spelled) =
-          let one : whole.descriptor ≡ d = whole_type scope s s_sound s_can o d its whole paths a in
-          let two : other.descriptor ≡ e = whole_type scope t sound can o e also other ways b in
-          not_told d e pools index d_sound (message_bytes whole) back
+          let one : whole.descriptor ≡ d = whole_type scope s twins.sound can o d its whole paths a in
+          let two : other.descriptor ≡ e = whole_type scope t twins.also can_too o e also other ways b in
+          not_told d e pools index (message_bytes whole) back
           (subst (λ (c : MessageDescriptor). IsSpelled c (message_bytes whole) back) two (subst (λ bytes. IsSpelled other.descriptor bytes back) (sym same_bytes) spelled)) w differs
           (subst (λ (c : MessageDescriptor). TellsWhy c (message_bytes whole) w) one why)
 
@@ -216,8 +206,8 @@ module _ (scope : OptionScope) (s t : NameScope) (alike : NameAlike s t) (one_po
     refuses_typed None k (inl why) other ways b back = refuses_stored b.0 b.2 scope refl k why
     refuses_typed None k (inr (whole, paths, a, why)) other ways b back = refuses_written whole other paths ways a b k why back
     refuses_typed (Some place) k (stored, is, refuses) other ways b back =
-        not_set_at s t alike pool sound o.uninterpreted_option.items place stored b.0 b.1 ways k (stored_twins stored b.0 is b.2)
-        (stored_shape scope s s_sound s_can o d its stored is) (stored_shape scope t sound can o e also b.0 b.2) refuses b.3
+        not_set_at s t alike o.uninterpreted_option.items place stored b.0 b.1 ways k (stored_twins stored b.0 is b.2)
+        (stored_shape scope s twins.sound can o d its stored is) (stored_shape scope t twins.also can_too o e also b.0 b.2) refuses b.3
 
   -- none is forbidden, and one is
   forbidden_none : (at : Option ℕ) (k : OptionErrorKind) → IsForbiddenAt scope o at k → FindsForbidden scope o None → ⊥
@@ -227,5 +217,5 @@ module _ (scope : OptionScope) (s t : NameScope) (alike : NameAlike s t) (one_po
   -- nor in any way
   pub not_settled : (at : Option ℕ) (k : OptionErrorKind) → RefusesOptions scope s o at k → (settled : OptionsContent) (paths : List (List ℤ)) → Settles scope t o settled paths → ⊥
   not_settled at k (inl forbidden) settled paths is = forbidden_none at k forbidden is.0
-  not_settled at k (inr (finds, inl lacks)) settled paths is = no_such_type pool (type_name scope) is.1.0 (found_there scope s t one_pool None lacks.0) is.1.1.1
+  not_settled at k (inr (finds, inl lacks)) settled paths is = no_such_type t.pool.now (type_name scope) is.1.0 (found_there s.pool.now t.pool.now twins.messages scope None lacks.0) is.1.1.1
   not_settled at k (inr (finds, inr (d, its, why))) settled paths is = refuses_typed d is.1.0 its is.1.1 at k why is.1.2 paths is.1.3 is.1.4.1

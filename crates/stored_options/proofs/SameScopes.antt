@@ -1,15 +1,22 @@
--- Where names of options are looked up in one pool, from one name, and by what one file of it sees,
--- each means one extension.
+-- Where names of options are looked up in two pools of the same files, from one name, and by what one file
+-- sees, each means one extension.
 use Rattle.std.proofs.Common.{◌≡◌, ◌⊎◌, ◌<◌, ◌∙◌, ℕ, true, List, [], ◌∷◌, Some, map, length, slice_index_or, ap, refl, sym, subst, arith}
 use Rattle.std.proofs.lemmas.List.{length-map}
+use Rattle.std.specs.List.{position}
+use Rattle.std.specs.Prelude.{bytes_eq}
+use Rattle.descriptor_records.specs.Content.{file_view}
+use Rattle.descriptor_records.specs.declared.file.FileDescriptorProto.{FileDescriptorProto}
 use Rattle.option_setter.specs.OptionNames.{MeansThere}
 use Rattle.option_setter.specs.declared.option_setter.NameScope.{NameScope}
 use Rattle.protox_lex.specs.Class.{Text}
 use Rattle.reflect_index.proofs.Among.{got_map, of_all, of_place}
-use Rattle.reflect_known.specs.KnownNames.{known_of_files}
+use Rattle.reflect_growth.proofs.Told.{file_seen, file_told, header_seen, header_told, through}
+use Rattle.reflect_known.specs.GivenNames.{names_of_file}
+use Rattle.reflect_known.specs.KnownNames.{known_of_files, nothing_before, nothing_known}
+use Rattle.reflect_known.proofs.GivenNames.{known_told}
 use Rattle.reflect_options.specs.Entities.{Entity}
 use Rattle.reflect_options.specs.Settling.{IsScopeOf, SeesFrom}
-use Rattle.reflect_pool.specs.Imports.{imported_places, place_named}
+use Rattle.reflect_pool.specs.Imports.{imported_places, names_of_files, place_named}
 use Rattle.reflect_scope.specs.FileIndexes.{link_view}
 use Rattle.reflect_scope.specs.Known.{Known}
 use Rattle.reflect_scope.specs.Means.{Meaning, means}
@@ -20,7 +27,8 @@ use Rattle.reflect_scope.specs.declared.definition.ResolveNameFilter.TheVariants
 use Rattle.reflect_scope.specs.declared.seen.Links.{Links}
 use Rattle.reflect_scope.specs.declared.seen.SeenFiles.{SeenFiles}
 use Rattle.reflect_tables.specs.Names.{FullName, extension_name, extensions, found, place_in, place_of, with_file}
-use Rattle.reflect_tables.specs.Types.{ExtensionWithin, PoolType, counts_of}
+use Rattle.reflect_tables.specs.Types.{ExtensionWithin, FileType, PoolType, counts_of}
+use Rattle.reflect_tables.specs.Views.{record_file}
 use Rattle.types_view.specs.Pools.{IsPool}
 use Rattle.stored_options.proofs.LooksUp.{extension_kind, extension_seen}
 use Rattle.stored_options.proofs.OneTarget.{NameAlike}
@@ -83,33 +91,56 @@ sees_same links more is f g sees =
     let moved : SeesIn (imports_of more) (publics_of links) f g = subst (λ xs. SeesIn xs (publics_of links) f g) imports sees in
     subst (λ xs. SeesIn (imports_of more) xs f g) publics moved
 
--- of the files of a pool both tell the same ones
-seen_too : (pool : PoolType) (file : ℕ) (x y : SeenFiles) → SeesFrom pool file x → SeesFrom pool file y → (g : ℕ) → g < length pool.files → tells x g ≡ true → tells y g ≡ true
-seen_too pool file x y (links, is, sees) (more, same, see) g less e =
-    let many : length links ≡ length pool.files = sym (length-map links link_view) ∙ ap length is ∙ length-map pool.files (imported_places (place_named pool)) in
-    let too : length more ≡ length pool.files = sym (length-map more link_view) ∙ ap length same ∙ length-map pool.files (imported_places (place_named pool)) in
-    (see g (omega (arith, less, too))).1 (sees_same links more (is ∙ sym same) file g ((sees g (omega (arith, less, many))).0 e))
+-- which files import which
+abbrev places : List FileType → List (List ℕ × List ℕ)
+places files = map (imported_places (λ name. position (bytes_eq name) (names_of_files files))) files
 
--- ---- the scopes of one entity
+-- of the files of two pools that have the same ones both tell the same ones
+seen_too : (p q : PoolType) → p.files ≡ q.files → (i j : ℕ) → i ≡ j → (x y : SeenFiles) → SeesFrom p i x → SeesFrom q j y → (g : ℕ) → g < length p.files → tells x g ≡ true → tells y g ≡ true
+seen_too p q files i j place x y (links, is, sees) (more, same, see) g less e =
+    let many : length links ≡ length p.files = sym (length-map links link_view) ∙ ap length is ∙ length-map p.files (imported_places (place_named p)) in
+    let too : length more ≡ length q.files = sym (length-map more link_view) ∙ ap length same ∙ length-map q.files (imported_places (place_named q)) in
+    let long : length p.files ≡ length q.files = ap length files in
+    let one : map link_view links ≡ map link_view more = is ∙ ap places files ∙ sym same in
+    let seen : Sees more i g = sees_same links more one i g ((sees g (omega (arith, less, many))).0 e) in
+    (see g (omega (arith, less, too, long))).1 (subst (λ k. Sees more k g) place seen)
 
-module _ (pool : PoolType) (whole : IsPool pool) (c : Entity) where
+-- ---- files of one content
+
+-- make the same known
+pub known_same : (fs gs : List FileDescriptorProto) → map file_view fs ≡ map file_view gs → known_of_files fs ≡ known_of_files gs
+known_same fs gs same =
+    known_told nothing_known nothing_before 0 fs gs
+    (through file_told file_view names_of_file file_seen fs ∙ ap (map file_told) same ∙ sym (through file_told file_view names_of_file file_seen gs))
+
+-- and import the same
+headers_same : (fs gs : List FileDescriptorProto) → map file_view fs ≡ map file_view gs → map record_file fs ≡ map record_file gs
+headers_same fs gs same = through header_told file_view record_file header_seen fs ∙ ap (map header_told) same ∙ sym (through header_told file_view record_file header_seen gs)
+
+-- ---- the scopes of one entity in two pools of the same files
+
+module _ (p q : PoolType) (whole : IsPool p) (whole_too : IsPool q) (same : map file_view p.records ≡ map file_view q.records) where
+  files : p.files ≡ q.files
+  files = whole.recorded.headers ∙ headers_same p.records q.records same ∙ sym whole_too.recorded.headers
+
   abbrev known : Known
-  known = known_of_files pool.records
+  known = known_of_files p.records
 
-  -- an extension that is seen in the one is seen in the other
-  wanted_too : (x y : NameScope) → IsScopeOf pool c x → IsScopeOf pool c y → WantedToo known filters.Extension (tells x.seen.now) (tells y.seen.now)
-  wanted_too x y a b n d h =
+  -- an extension that is seen by the one is seen by the other
+  wanted_too : (x y : SeenFiles) → ((g : ℕ) → g < length p.files → tells x g ≡ true → tells y g ≡ true) → WantedToo known filters.Extension (tells x) (tells y)
+  wanted_too x y see_too n d h =
       let k = extension_kind d.kind h.wanted in
       let at : found extensions known n ≡ Some (k.0, d.file) = ap (place_in extensions) h.known_as ∙ ap (λ x. with_file d (place_of extensions x)) k.1 in
-      let e = got_map extension_name pool.extensions k.0 (n, d.file) ((whole.indexed.named.found extensions n k.0 d.file).0 at) in
+      let e = got_map extension_name p.extensions k.0 (n, d.file) ((whole.indexed.named.found extensions n k.0 d.file).0 at) in
       let file : e.0.file ≡ d.file = ap (λ (y : FullName). y.1) e.2 in
-      let within = of_all (ExtensionWithin (counts_of pool)) e.0 pool.extensions whole.kept.pooled.extensions (of_place e.0 pool.extensions k.0 e.1) in
-      let less : d.file < length pool.files = subst (λ n. n < length pool.files) file within.file in
-      let see : tells x.seen.now d.file ≡ true = sym (extension_seen (tells x.seen.now) d k.0 k.1) ∙ h.seen in
-      let too : tells y.seen.now d.file ≡ true = seen_too pool c.file x.seen.now y.seen.now a.seen b.seen d.file less see in
-      record { known_as = h.known_as; seen = extension_seen (tells y.seen.now) d k.0 k.1 ∙ too; wanted = h.wanted }
+      let within = of_all (ExtensionWithin (counts_of p)) e.0 p.extensions whole.kept.pooled.extensions (of_place e.0 p.extensions k.0 e.1) in
+      let less : d.file < length p.files = subst (λ n. n < length p.files) file within.file in
+      let see : tells x d.file ≡ true = sym (extension_seen (tells x) d k.0 k.1) ∙ h.seen in
+      record { known_as = h.known_as; seen = extension_seen (tells y) d k.0 k.1 ∙ see_too d.file less see; wanted = h.wanted }
 
-  pub entity_alike : (s t : NameScope) → IsScopeOf pool c s → IsScopeOf pool c t → NameAlike s t
-  entity_alike s t a b =
-      name_alike s t known (ap (λ (p : PoolType). known_of_files p.records) a.pool) (ap (λ (p : PoolType). known_of_files p.records) b.pool) (a.name ∙ sym b.name)
-      (wanted_too s t a b) (wanted_too t s b a)
+  pub entity_alike : (c d : Entity) → c.file ≡ d.file → c.name ≡ d.name → (s t : NameScope) → IsScopeOf p c s → IsScopeOf q d t → NameAlike s t
+  entity_alike c d file name s t a b =
+      name_alike s t known (ap (λ (r : PoolType). known_of_files r.records) a.pool) (ap (λ (r : PoolType). known_of_files r.records) b.pool ∙ sym (known_same p.records q.records same)) (a.name ∙ name ∙ sym b.name)
+      (wanted_too s.seen.now t.seen.now (seen_too p q files c.file d.file file s.seen.now t.seen.now a.seen b.seen))
+      (wanted_too t.seen.now s.seen.now
+      (λ g less. seen_too q p (sym files) d.file c.file (sym file) t.seen.now s.seen.now b.seen a.seen g (subst (λ (fs : List FileType). g < length fs) files less)))

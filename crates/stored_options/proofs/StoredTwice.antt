@@ -1,6 +1,6 @@
--- What bytes spell twice is seen alike, and what they spell is not refused, whatever the bytes are.
-use Rattle.std.proofs.Common.{◌≡◌, ◌≢◌, ◌||◌, not, ℕ, Bool, cond, List, Option, None, Some, option_map, refl, sym, ap, ◌∙◌, subst}
-use Rattle.std.specs.List.{AllByRecursion}
+-- What bytes spell by types of one name in two pools that say the same to texts is seen alike, and what they spell by the one
+-- the other does not refuse, whatever the bytes are.
+use Rattle.std.proofs.Common.{◌≡◌, ◌≢◌, ◌||◌, not, ℕ, Bool, cond, List, Option, None, Some, option_map, refl, sym, ap, ◌∙◌}
 use Rattle.std.specs.Option.{option_and_then}
 use Rattle.message_laws.proofs.Excluding.{excluded}
 use Rattle.message_view.specs.Singles.{single_view}
@@ -17,7 +17,6 @@ use Rattle.protobuf_model.specs.Scalars.{same}
 use Rattle.protobuf_model.specs.Values.{Held, absent, content, nothing, truth}
 use Rattle.protobuf_model.specs.Values as model
 use Rattle.protobuf_model.proofs.Reading.{listed_back}
-use Rattle.reflect_decode.specs.Accepts.{AcceptsMessage, AcceptsRecord}
 use Rattle.reflect_decode.specs.Levels.{TakesAt}
 use Rattle.reflect_decode.specs.Refused.{BodyFault}
 use Rattle.reflect_decode.specs.Spelled.{IsSpelled, TellsWhy}
@@ -41,6 +40,8 @@ use Rattle.settled_records.proofs.Kept.{IsPlain, PlainAt}
 use Rattle.text_view.proofs.Puts.{seen_at, shown}
 use Rattle.stored_options.proofs.OwnTruth.{said_at}
 use Rattle.stored_options.proofs.Scoped.{truth_known}
+use Rattle.stored_options.proofs.TwinPools.{AreTwinPools, name_same, types_same}
+use Rattle.stored_options.proofs.TwinReading.{accepted_too}
 
 -- ---- one reading
 
@@ -57,14 +58,14 @@ read_view d sound bytes m type (rs, spelled, keeps, some, also, fields, (extensi
     view_opened m ∙ ap (λ (d : MessageDescriptor). view_of d.pool.now d.index (content_of m)) type
     ∙ sym (leaves_meaning pool sound.keys sound.defaults (types_of pool) (named pool sound.names) 100 d refl (content_of m) rs left)
 
-module _ (d e : MessageDescriptor) (pools : d.pool.now ≡ e.pool.now) (index : d.index ≡ e.index) (sound : IsSound d.pool.now) (bytes : List ℕ) where
+module _ (d e : MessageDescriptor) (twins : AreTwinPools d.pool.now e.pool.now) (index : d.index ≡ e.index) (bytes : List ℕ) where
   -- messages that they spell by two descriptors of one type
   pub spelled_twice : (m n : DynamicMessage) → m.descriptor ≡ d → n.descriptor ≡ e → IsSpelled d bytes m → IsSpelled e bytes n → view m ≡ view n
   spelled_twice m n of also h k =
       let rows = one_rows bytes h.0 k.0 h.1 k.1 in
-      read_view d sound bytes m of h
-      ∙ (λ i. meaning 100 (types_of (pools i)) (name_at (pools i) (index i)) nothing (rows i))
-      ∙ sym (read_view e (subst IsSound pools sound) bytes n also k)
+      read_view d twins.sound bytes m of h
+      ∙ (λ i. meaning 100 (types_same d.pool.now e.pool.now twins i) (name_same d.pool.now e.pool.now twins d.index e.index index i) nothing (rows i))
+      ∙ sym (read_view e twins.also bytes n also k)
 
   -- what is told is true of the bytes, but for want of memory
   told_fault : (P : List ℕ → WireError → Type 0) (w : WireError) → w ≢ errors.Memory → TellsTrue P bytes w → P bytes w
@@ -74,10 +75,8 @@ module _ (d e : MessageDescriptor) (pools : d.pool.now ≡ e.pool.now) (index : 
   -- what is told of bytes by one descriptor is not so where they spell a message by the other
   pub not_told : (n : DynamicMessage) → IsSpelled e bytes n → (w : WireError) → w ≢ errors.Memory → TellsWhy d bytes w → ⊥
   not_told n (rs, spelled, keeps, some, also, fields, extended, accepts, ordered) w other why =
-      let here : AllByRecursion (AcceptsRecord 100 (AcceptsMessage 100) d.pool.now d.index) rs =
-      subst (λ i. AllByRecursion (AcceptsRecord 100 (AcceptsMessage 100) d.pool.now i) rs) (sym index)
-      (subst (λ p. AllByRecursion (AcceptsRecord 100 (AcceptsMessage 100) p e.index) rs) (sym pools) accepts) in
-      excluded d.pool.now sound.keys 100 d.index bytes w (told_fault (BodyFault 100 d.pool.now d.index None) w other why) rs spelled here
+      excluded d.pool.now twins.sound.keys 100 d.index bytes w (told_fault (BodyFault 100 d.pool.now d.index None) w other why) rs spelled
+      (accepted_too 100 d e twins (name_same d.pool.now e.pool.now twins d.index e.index index) rs accepts)
 
 -- ---- the truth value that is seen under a number
 
