@@ -177,8 +177,8 @@ module _ (o : OptionContent) (levels : ℕ) (old new : DynamicMessage)
         stood = ap pairs (under_target d sound.apart t owns old refl ∙ sym (map_held pool f (held_by old t) stood.0 stood.1)) ∙ pairs-if_some (pairs_view stood.0);
         entry = (λ i. entry_of (key i) (part i) (seen i)) ∙ p.3;
         put = subst (λ fs. view new ≡ assign fs f.number (if_some (pairs_view (insert_entry ghosts.cmp stood.0 p.0 p.1))) (view old)) (sym same_fields)
-            (changed old new sound.apart sets.same_type shape.1 t (v ∷ []) owns (adds.5 (many_map t whole_map)) adds (if_some (pairs_view puts.0)) (sym (map_held pool f (held_by new t) puts.0 puts.1))
-            ∙ ap (λ es. assign (field_at pool d.index) f.number (if_some (pairs_view es)) (view old)) {y = insert_entry ghosts.cmp stood.0 p.0 p.1} after);
+            (subst (λ es. view new ≡ assign (field_at pool d.index) f.number (if_some (pairs_view es)) (view old)) after
+            (changed old new sound.apart sets.same_type shape.1 t (v ∷ []) owns (adds.5 (many_map t whole_map)) adds (if_some (pairs_view puts.0)) (sym (map_held pool f (held_by new t) puts.0 puts.1))));
       }
 
   -- what the last part of a name puts into a map

@@ -1,6 +1,6 @@
 //! Laws of options that are refused, each the contract of a function that does nothing.
-ghost use Rattle.std.specs.Prelude.{◌≡◌, ℕ, ℤ, List, Option};
-ghost use Rattle.descriptor_records.specs.Content.{OptionsContent};
+ghost use Rattle.std.specs.Prelude.{◌≡◌, ℕ, ℤ, List, Option, Some, map};
+ghost use Rattle.descriptor_records.specs.Content.{FileContent, OptionsContent, file_view};
 ghost use Rattle.descriptor_records.specs.declared.options.Options.{Options};
 ghost use Rattle.message_view.specs.Sound.{IsSound};
 ghost use Rattle.option_parts.specs.OptionTypes.{CanRead};
@@ -12,6 +12,7 @@ ghost use Rattle.reflect_options.specs.Settled.{RefusesOptions, Settles, StayAsT
 ghost use Rattle.reflect_options.specs.Settling.{RefusesFrom, SettlesPool};
 ghost use Rattle.reflect_tables.specs.Types.{PoolType};
 ghost use Rattle.types_view.specs.Pools.{IsPool};
+ghost use Rattle.types_view.specs.Typed.{IsTyped};
 
 /// Options that are refused cannot be settled: where a refusal is true of the options of a record,
 /// there is nothing that they settle to, wherever their messages lie in memory. Nor do they stay as
@@ -33,4 +34,15 @@ pub fn refused_pools_are_not_settled()
     ensures { (pool new : PoolType) (first : ℕ) (place : Option Place) (e : OptionErrorKind)
         → IsPool pool → IsSound pool
         → RefusesFrom pool first place e → SettlesPool pool first new → ⊥ }
+{}
+
+/// However the same files are linked: where a refusal is true, at a place, of a pool that these
+/// batches built, the last of them first, no other pool that they built, with the same records
+/// wherever these lie in memory, has a settled one.
+pub fn refused_files_are_not_settled_in_another_pool()
+    ensures { (batches : List (List FileContent)) (pool other new : PoolType) (first : ℕ)
+        (place : Place) (e : OptionErrorKind) → IsTyped batches pool → IsTyped batches other
+        → IsPool pool → IsPool other → IsSound pool → IsSound other
+        → map file_view pool.records ≡ map file_view other.records
+        → RefusesFrom pool first (Some place) e → SettlesPool other first new → ⊥ }
 {}
