@@ -62,6 +62,7 @@ pub mod Chains
 pub mod WrittenAlike
 pub mod Sizes
 pub mod TakenOrRefused
+pub mod TakenOptions
 pub mod RequiredTypes
 pub mod Placed
 pub mod PlacedNames

@@ -69,16 +69,12 @@ one_declared fs linked full r s a b =
     ∙ ap (λ (m : MessageFacts). map extension_range m.extensions) (body_same a.facts b.facts bodies)
     ∙ b.ranges
 
-pub keep_alike : (p q : PoolType) (files : List FileDescriptorProto) → TellsMessages p
-    → TellsMessages q → FaultlessFiles empty_pool files q → IsPool q
-    → map file_view p.records ≡ map file_view q.records → KeepAlike p q
-keep_alike p q files tells also faultless whole same i k lt less names (r, own, custom) =
+pub keep_linked : (p q : PoolType) → TellsMessages p → TellsMessages q
+    → AreLinked (map file_view q.records) → map file_view p.records ≡ map file_view q.records
+    → KeepAlike p q
+keep_linked p q tells also linked same i k lt less names (r, own, custom) =
     let x = tells i lt in
     let y = also k less in
-    let built = built_more [] empty_pool q files empty_built whole.recorded whole.indexed whole.kept
-    faultless in
-    let linked = built_linked (map file_view (new_files built.0.indexes files) ∷ [])
-    (map file_view q.records) built.2.built in
     let told : Declare (map file_view q.records) (name_at q k) x.0 =
     subst (λ fs. Declare fs (name_at q k) x.0) same
     (subst (λ n. Declare (map file_view p.records) n x.0) names x.2) in
@@ -86,6 +82,15 @@ keep_alike p q files tells also faultless whole same i k lt less names (r, own, 
     let first : ranges_of r ≡ ranges_of y.0 =
     ap ranges_of (one_record p i r x.0 own x.1) ∙ ranges in
     (y.0, y.1, sym (custom_by r y.0 first) ∙ custom)
+
+pub keep_alike : (p q : PoolType) (files : List FileDescriptorProto) → TellsMessages p
+    → TellsMessages q → FaultlessFiles empty_pool files q → IsPool q
+    → map file_view p.records ≡ map file_view q.records → KeepAlike p q
+keep_alike p q files tells also faultless whole same =
+    let built = built_more [] empty_pool q files empty_built whole.recorded whole.indexed whole.kept
+    faultless in
+    keep_linked p q tells also (built_linked (map file_view (new_files built.0.indexes files) ∷ [])
+    (map file_view q.records) built.2.built) same
 
 -- ---- options that were settled
 

@@ -75,7 +75,7 @@ sources_not_both old new given e was whole (files, are, linked) (others, also, r
 one_set_of : (bytes : List ℕ) (s t : FileDescriptorSet) → IsSetBytes bytes s → IsSetBytes bytes t → set_view s ≡ set_view t
 one_set_of bytes s t h k = one_set 100 h.0 s t h.2 (subst (λ fs. IsSet 100 fs t) (one_fields 100 bytes k.0 h.0 k.1 h.1) k.2)
 
-one_files : (bytes : List ℕ) (fs gs : List FileDescriptorProto) → SpellsSet bytes fs → SpellsSet bytes gs → map file_view fs ≡ map file_view gs
+pub one_files : (bytes : List ℕ) (fs gs : List FileDescriptorProto) → SpellsSet bytes fs → SpellsSet bytes gs → map file_view fs ≡ map file_view gs
 one_files bytes fs gs (s, means, are) (t, also, ones) =
     sym (ap (map file_view) are) ∙ one_set_of bytes s t means also ∙ ap (map file_view) ones
 

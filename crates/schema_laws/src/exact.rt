@@ -2,6 +2,7 @@
 //! function that does nothing. That `IsPool` holds of each pool `pools_are_whole` says.
 ghost use Rattle.std.specs.Prelude.{ℕ, List};
 ghost use Rattle.option_parts.specs.OptionTypes.{ReadsOptions, TellsRequired};
+ghost use Rattle.option_parts.specs.declared.option_error.OptionError.{OptionError};
 ghost use Rattle.option_parts.specs.declared.option_error.OptionErrorKind.{OptionErrorKind};
 ghost use Rattle.option_parts.specs.declared.option_scope.OptionScope.{OptionScope};
 ghost use Rattle.protox_parse.specs.declared.error.ParseError.{ParseError};
@@ -11,24 +12,28 @@ ghost use Rattle.reflect_tables.specs.Types.{PoolType};
 ghost use Rattle.reflect_wire.specs.declared.wire_error.WireError.{WireError};
 ghost use Rattle.schema_core.specs.Refusals.{AreSmall, IsPool, SetLinked, SetRefused};
 ghost use Rattle.schema_core.specs.Refusals.{SourcesLinked, SourcesRefused};
-ghost use Rattle.schema_core.specs.declared.error.SchemaError.TheVariants.{Link, Parse, TooLong};
-ghost use Rattle.schema_core.specs.declared.error.SchemaError.TheVariants.{Wire};
+ghost use Rattle.schema_core.specs.declared.error.SchemaError.TheVariants.{Link, Options, Parse};
+ghost use Rattle.schema_core.specs.declared.error.SchemaError.TheVariants.{TooLong, Wire};
 ghost use Rattle.schema_core.specs.declared.schema.Schema.{Schema};
 ghost use Rattle.schema_laws.specs.Histories.{IsGrown, Sources};
 
 /// Of sources that are added to one schema, each of fewer bytes than are too large, none is
 /// refused as such, by that schema or another; and a schema that takes them does not refuse them
-/// for how they link.
+/// for how they link, nor for their options.
 pub fn linked_sources_are_not_refused()
     ensures parsed { (p q new : PoolType) (given : Sources) (e : ParseError)
         → AreSmall given → SourcesLinked p given new → SourcesRefused q given (Parse e) → ⊥ }
     ensures linked { (old new : Schema) (given : Sources) (e : DescriptorError)
         → IsGrown old → IsPool new.pool → SourcesLinked old.pool given new.pool
         → SourcesRefused old.pool given (Link e) → ⊥ }
+    ensures options { (old new : Schema) (given : Sources) (e : OptionError)
+        → IsGrown old → IsPool new.pool → SourcesLinked old.pool given new.pool
+        → SourcesRefused old.pool given (Options e) → ⊥ }
 {}
 
 /// The bytes of a set that is added to one schema are not refused as no set, by that schema or
-/// another; and a schema that takes its files does not refuse them for how they link.
+/// another; and a schema that takes its files does not refuse them for how they link, nor for their
+/// options.
 pub fn linked_sets_are_not_refused()
     ensures spelled { (p q new : PoolType) (bytes : List ℕ) (e : WireError)
         → SetLinked p bytes new → SetRefused q bytes (Wire e) → ⊥ }
@@ -37,6 +42,9 @@ pub fn linked_sets_are_not_refused()
     ensures linked { (old new : Schema) (bytes : List ℕ) (e : DescriptorError)
         → IsGrown old → IsPool new.pool → SetLinked old.pool bytes new.pool
         → SetRefused old.pool bytes (Link e) → ⊥ }
+    ensures options { (old new : Schema) (bytes : List ℕ) (e : OptionError)
+        → IsGrown old → IsPool new.pool → SetLinked old.pool bytes new.pool
+        → SetRefused old.pool bytes (Options e) → ⊥ }
 {}
 
 /// A source that makes a schema by which all options are read is not refused for a type of options

@@ -62,7 +62,7 @@ same_places (x ∷ xs) (y ∷ ys) to back =
 
 module _ (p q : PoolType) (whole : IsPool p) (whole_too : IsPool q) (one_known : known_of_files p.records ≡ known_of_files q.records) where
   -- what a name stands for it stands for in both
-  pub names_once : (s : Sort) → names_of p s ≡ names_of q s
+  names_once : (s : Sort) → names_of p s ≡ names_of q s
   names_once s =
       same_places (names_of p s) (names_of q s)
       (λ k x e. (whole_too.indexed.named.found s x.0 k x.1).0 (subst (λ (known : Known). found s known x.0 ≡ Some (k, x.1)) one_known ((whole.indexed.named.found s x.0 k x.1).1 e)))

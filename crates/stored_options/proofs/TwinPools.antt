@@ -20,7 +20,7 @@ mapped_at f [] i d = refl
 mapped_at f (x ∷ xs) zero d = refl
 mapped_at f (x ∷ xs) (suc i) d = mapped_at f xs i d
 
-pub as_long : {X Y : Type 0} (f : X → Y) (xs ys : List X) → map f xs ≡ map f ys → length xs ≡ length ys
+as_long : {X Y : Type 0} (f : X → Y) (xs ys : List X) → map f xs ≡ map f ys → length xs ≡ length ys
 as_long f xs ys same = sym (length-map xs f) ∙ ap length same ∙ length-map ys f
 
 -- so it is of what stands there, whatever else would

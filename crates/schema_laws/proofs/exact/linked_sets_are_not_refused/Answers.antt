@@ -1,3 +1,4 @@
+use Rattle.schema_laws.proofs.TakenOptions.{set_taken}
 use Rattle.schema_laws.proofs.TakenOrRefused.{sets_not_both}
 use Rattle.schema_laws.proofs.exact.linked_sets_are_not_refused.Goals as goal
 
@@ -9,3 +10,6 @@ returns-clause-short c = λ p q new bytes linked refused. refused.1.0 linked.0 l
 
 pub returns-clause-linked : goal.returns-clause-linked
 returns-clause-linked c = sets_not_both
+
+pub returns-clause-options : goal.returns-clause-options
+returns-clause-options c = set_taken
