@@ -243,10 +243,10 @@ pub fn run<F: SourceFiles, R: Read, W: Write, E: Write>(
 ) -> u8
     ensures { Ends F.read_gives (map (λ word. word.now) words.now)
         (record {
-        before = files.old;
-        behind = files.new;
-        input = record { before = R.remaining input.old; behind = R.remaining input.new };
-        output = record { before = W.contents output.old; behind = W.contents output.new };
+          before = files.old;
+          behind = files.new;
+          input = record { before = R.remaining input.old; behind = R.remaining input.new };
+          output = record { before = W.contents output.old; behind = W.contents output.new };
         }) result }
 {
     let matches = match parse(alloc, words) {

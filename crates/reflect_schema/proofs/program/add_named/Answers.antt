@@ -1,4 +1,4 @@
-use Rattle.std.proofs.Common.{rules, ◌≡◌, ◌∙◌, List, ℕ, Bor, Vec, Global, ap, map, subst}
+use Rattle.std.proofs.Common.{rules, ◌≡◌, ◌∙◌, List, ℕ, Vec, Global, ap, map, subst}
 use Rattle.std.specs.List.{zip}
 use Rattle.reflect_schema.specs.Runs.{RefusesNamed, source_names}
 use Rattle.reflect_schema.specs.declared.program.RunFault.TheVariants as run

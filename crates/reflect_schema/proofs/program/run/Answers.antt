@@ -1,4 +1,4 @@
-use Rattle.std.proofs.Common.{rules, ◌≡◌, ap, inl, inr, map, refl, subst}
+use Rattle.std.proofs.Common.{rules, ap, inl, inr, refl, subst}
 use Rattle.clap.specs.Matches.{found_of}
 use Rattle.clap.specs.Walk.{rows_of}
 use Rattle.schema_words.specs.Asked.{Asks, AsksNothing}

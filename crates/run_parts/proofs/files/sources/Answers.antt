@@ -1,4 +1,4 @@
-use Rattle.std.proofs.Common.{rules, subst, sym}
+use Rattle.std.proofs.Common.{subst, sym}
 use Rattle.std.proofs.lemmas.Slice.Zip.{either_empty_from_Zip}
 use Rattle.run_parts.specs.Refusals.{AreTexts}
 use Rattle.run_parts.proofs.Texts.{none_paired, paired_all}
