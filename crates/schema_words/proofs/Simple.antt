@@ -1,5 +1,5 @@
 -- The command line is one of those of which clap tells what it takes.
-use Rattle.std.proofs.Common.{◌≡◌, ◌∙◌, List, Result, Ok, Err, IfOk, inl, inr, refl, subst, true}
+use Rattle.std.proofs.Common.{◌≡◌, List, Result, Ok, Err, IfOk, inl, inr, refl, subst, true}
 use Rattle.clap.specs.Faults.{fault_of, is_simple_and_free}
 use Rattle.clap.specs.Kinds.{FailsBy}
 use Rattle.clap.specs.Simple.{App, HasMatchesOf, Shape, is_simple, on_top}
@@ -8,7 +8,7 @@ use Rattle.clap.specs.declared.builder.value_parser.ValueParser.{ValueParser}
 use Rattle.clap.specs.declared.error.Error.{Error}
 use Rattle.clap.specs.declared.parser.matches.ArgMatches.{ArgMatches}
 use Rattle.clap.proofs.OnLiterals.{clap_on_literals}
-use Rattle.schema_words.specs.CommandLine.{AreRead, TakesActions, app, faults, found_in}
+use Rattle.schema_words.specs.CommandLine.{AreRead, TakesActions, app, faults}
 
 abbrev pub without_name : App → App
 without_name a = on_top (λ (s : Shape). record s { no_binary_name = true }) a

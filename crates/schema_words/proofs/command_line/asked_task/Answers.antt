@@ -1,4 +1,4 @@
-use Rattle.std.proofs.Common.{rules, ◌≡◌, ℕ, List, [], ◌∷◌, None, Some, codes}
+use Rattle.std.proofs.Common.{rules, ℕ, List, None, Some, codes}
 use Rattle.clap.specs.Matches.{found_of}
 use Rattle.clap.specs.Walk.{rows_of}
 use Rattle.schema_words.specs.Asked.{word_of}

@@ -2,7 +2,6 @@ use Rattle.std.proofs.Common.{◌≡◌, ◌∙◌, ap, ap₂, codes}
 use Rattle.std.proofs.lemmas.Result.{IfOk-weaker}
 use Rattle.clap.specs.Simple.{app_of, app_of_fields, new_app, with_rule}
 use Rattle.clap.specs.Walk.{rule_of}
-use Rattle.schema_words.specs.CommandLine.{action_rule, hex_rule, names_rule, option_rule, root_rule}
 use Rattle.schema_words.proofs.Simple.{with_version, without_name}
 use Rattle.schema_words.proofs.command_line.command.Goals as goal
 

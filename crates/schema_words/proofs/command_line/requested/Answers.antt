@@ -1,4 +1,4 @@
-use Rattle.std.proofs.Common.{rules, ◌≡◌, ◌∙◌, List, [], None, Some, ap, codes, inr, map, subst}
+use Rattle.std.proofs.Common.{rules, ◌≡◌, ◌∙◌, [], None, Some, ap, codes, inr, map, subst}
 use Rattle.std.specs.Option.{option_map, unwrap_or}
 use Rattle.clap.specs.Matches.{found_of, matched_of, one_text, raw_values}
 use Rattle.clap.proofs.WalkLemmas.{first_value-rows, one_text-rows, raw_values-rows}
