@@ -1,6 +1,6 @@
 mod Entered
 mod Extended
-mod Given
+pub mod Given
 pub mod Keyed
 mod Lasting
 mod Leaving
@@ -9,7 +9,7 @@ mod Longer
 mod Mapped
 mod Numbered
 mod Owned
-mod Parts
+pub mod Parts
 pub mod Suited
 mod Taken
 pub mod Viewed

@@ -62,14 +62,14 @@ key_in o = elim o [
   | ValueOf-F.Map es ↦ None
 ]
 
-key_seen : (v : Value) (k : MapKey) → key_of_value v ≡ Some k → singles.single v ≡ Some (key_view k)
+pub key_seen : (v : Value) (k : MapKey) → key_of_value v ≡ Some k → singles.single v ≡ Some (key_view k)
 key_seen v k e = by (out-ValueOf MessageDescriptor v) e where
   by : (o : ValueOf-F MessageDescriptor blocks.Held Value DynamicMessage Parts) → key_in o ≡ Some k → single_in o ≡ Some (key_view k)
   by (ValueOf-F.Bytes b) e = absurd (cc e)
   by (ValueOf-F.EnumNumber z) e = absurd (cc e)
   by o e = ap (option_map key_view) e
 
-key_of_pair : (o : Option MapKey) (value : Value) (e : Entry) → Some e ≡ option_map (λ k. (k, value)) o → o ≡ Some e.0
+pub key_of_pair : (o : Option MapKey) (value : Value) (e : Entry) → Some e ≡ option_map (λ k. (k, value)) o → o ≡ Some e.0
 key_of_pair None value e is = absurd (cc is)
 key_of_pair (Some k) value e is = ap (λ (p : Option Entry). elim p [ None ↦ Some k | Some q ↦ Some q.0 ]) (sym is)
 
