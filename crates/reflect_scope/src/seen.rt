@@ -48,18 +48,19 @@ fn mark(
     Ok(())
 }
 
+/// Marks all of the files.
 fn mark_all(
     marks: &mut Vec<bool>,
     order: &mut Vec<FileIndex>,
-    files: &Vec<FileIndex>,
+    files: &[FileIndex],
 ) -> Result<(), AllocError>
     ensures marked { OnOk result (IsMarked marks.old.items order.old.items
         → IsMarked marks.new.items order.new.items) }
     ensures same { length marks.new.items ≡ length marks.old.items }
-    ensures grown { OnOk result (Extends (Contains files.now.items) order.old.items
+    ensures grown { OnOk result (Extends (Contains files.now) order.old.items
         order.new.items) }
     ensures there { OnOk result (IsMarked marks.old.items order.old.items → (g : ℕ)
-        → Contains files.now.items g → g < length marks.old.items → Contains order.new.items g) }
+        → Contains files.now g → g < length marks.old.items → Contains order.new.items g) }
     ensures listed { AreListed marks.old.items order.old.items
         → AreListed marks.new.items order.new.items }
 {
@@ -69,49 +70,23 @@ fn mark_all(
     Ok(())
 }
 
-fn mark_imports(
-    marks: &mut Vec<bool>,
-    order: &mut Vec<FileIndex>,
-    files: &[Links],
-    file: FileIndex,
-) -> Result<(), AllocError>
-    ensures marked { OnOk result (IsMarked marks.old.items order.old.items
-        → IsMarked marks.new.items order.new.items) }
-    ensures same { length marks.new.items ≡ length marks.old.items }
-    ensures grown { OnOk result (Extends (Contains (imports_at files.now file)) order.old.items
-        order.new.items) }
-    ensures there { OnOk result (IsMarked marks.old.items order.old.items → (g : ℕ)
-        → Contains (imports_at files.now file) g → g < length marks.old.items
-        → Contains order.new.items g) }
-    ensures listed { AreListed marks.old.items order.old.items
-        → AreListed marks.new.items order.new.items }
+/// The files that a file imports, none where there is no such file.
+fn imports(files: &[Links], file: FileIndex) -> &[FileIndex]
+    ensures { result.now ≡ imports_at files.now file }
 {
     match files.get(file as usize) {
-        Some(links) => mark_all(marks, order, &links.imports),
-        None => Ok(()),
+        Some(links) => links.imports.as_slice(),
+        None => &[],
     }
 }
 
-fn mark_public(
-    marks: &mut Vec<bool>,
-    order: &mut Vec<FileIndex>,
-    files: &[Links],
-    file: FileIndex,
-) -> Result<(), AllocError>
-    ensures marked { OnOk result (IsMarked marks.old.items order.old.items
-        → IsMarked marks.new.items order.new.items) }
-    ensures same { length marks.new.items ≡ length marks.old.items }
-    ensures grown { OnOk result (Extends (Contains (publics_at files.now file)) order.old.items
-        order.new.items) }
-    ensures there { OnOk result (IsMarked marks.old.items order.old.items → (g : ℕ)
-        → Contains (publics_at files.now file) g → g < length marks.old.items
-        → Contains order.new.items g) }
-    ensures listed { AreListed marks.old.items order.old.items
-        → AreListed marks.new.items order.new.items }
+/// The files that a file imports publicly, none where there is no such file.
+fn publics(files: &[Links], file: FileIndex) -> &[FileIndex]
+    ensures { result.now ≡ publics_at files.now file }
 {
     match files.get(file as usize) {
-        Some(links) => mark_all(marks, order, &links.public),
-        None => Ok(()),
+        Some(links) => links.public.as_slice(),
+        None => &[],
     }
 }
 
@@ -158,11 +133,11 @@ fn reach(
     ensures same { OnOk result (length marks.new.items ≡ length files.now) }
     ensures listed { AreListed marks.new.items order.new.items }
 {
-    mark_imports(marks, order, files, file)?;
+    mark_all(marks, order, imports(files, file))?;
     let mut next = 0;
     'reach: while next < order.len() {
         let current = order[next];
-        mark_public(marks, order, files, current)?;
+        mark_all(marks, order, publics(files, current))?;
         next += 1;
     }
     mark(marks, order, file)?;

@@ -7,7 +7,7 @@ use Rattle.reflect_scope.proofs.seen.mark_all.Goals as goal
 
 pub turns-preserved : goal.turns-preserved
 turns-preserved c =
-    let fs = c.deref-file-items.result.now in
+    let fs = c.args.files.now in
     let k = c.turns.file-index in
     let at = get_or fs k 0 in
     let front : take (k + 1) fs ≡ take k fs ++ at ∷ [] = take_more fs k 0 (omega arith) in
@@ -30,6 +30,6 @@ turns-preserved c =
 
 pub returns-clause-there : goal.returns-clause-there
 returns-clause-there c =
-    let fs = c.deref-file-items.result.now in
-    let all : take c.turns.file-index fs ≡ c.args.files.now.items = take_all c.turns.file-index fs (omega arith) ∙ c.deref-file-items.ensures.value in
+    let fs = c.args.files.now in
+    let all : take c.turns.file-index fs ≡ fs = take_all c.turns.file-index fs (omega arith) in
     λ m g h lt. c.turns.invariant.there m g (subst (λ xs. Contains xs g) (sym all) h) lt

@@ -11,4 +11,4 @@ pub record Turns (marks was : List Bool) (order old files : List ℕ) : Type 0 w
   pub listed : AreListed was old → AreListed marks order
 
 abbrev pub invariant-turns : goal.invariant-turns
-invariant-turns l = Turns l.marks.items l.initial.marks.items l.order.items l.initial.order.items (take l.file-index l.file-items)
+invariant-turns l = Turns l.marks.items l.initial.marks.items l.order.items l.initial.order.items (take l.file-index l.files)

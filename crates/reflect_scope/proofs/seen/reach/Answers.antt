@@ -12,20 +12,20 @@ pub reach-init : goal.reach-init
 reach-init c =
     let files = c.args.files.now in
     let starts = imports_at files c.args.file in
-    let order = c.mark_imports.new.order.items in
-    let marks = c.mark_imports.new.marks.items in
+    let order = c.mark_all.new.order.items in
+    let marks = c.mark_all.new.marks.items in
+    let is : c.imports.result.now ≡ starts = c.imports.ensures in
     let was : IsMarked c.args.marks.now.items c.args.order.now.items = subst (IsMarked c.args.marks.now.items) (sym c.requires.none) (marked_none c.args.marks.now.items c.requires.clear) in
     let listed : AreListed c.args.marks.now.items c.args.order.now.items = λ g e. absurd (c.requires.clear g e) in
-    let same = c.mark_imports.ensures.same in
-    let there = c.in_ok-mark_imports.ensures.there was in
+    let same = c.mark_all.ensures.same in
     record {
-      marked = c.in_ok-mark_imports.ensures.marked was;
-      listed = c.mark_imports.ensures.listed listed;
+      marked = c.in_ok-mark_all.ensures.marked was;
+      listed = c.mark_all.ensures.listed listed;
       room = subst (λ n. length files ≡ n) (sym same) c.requires.room;
       within = omega arith;
       searching = search_start (length marks) (publics_at files) starts order
-          (subst (λ xs. Extends (Contains starts) xs order) c.requires.none c.in_ok-mark_imports.ensures.grown)
-          (λ g h lt. there g h (subst (λ n. g < n) same lt));
+          (subst (λ xs. Extends (Contains starts) xs order) c.requires.none (subst (λ xs. Extends (Contains xs) c.args.order.now.items order) is c.in_ok-mark_all.ensures.grown))
+          (λ g h lt. c.in_ok-mark_all.ensures.there was g (subst (λ xs. Contains xs g) (sym is) h) (subst (λ n. g < n) same lt));
     }
 
 pub reach-preserved : goal.reach-preserved
@@ -37,22 +37,22 @@ reach-preserved c =
     let k = c.reach.next in
     let order = c.reach.order.items in
     let marks = c.reach.marks.items in
-    let new = c.mark_public.new.order.items in
+    let new = c.mark_all-in-reach.new.order.items in
     let lt : k < length order = search rules in
     let here : at ≡ get_or order k at = c.index-current.ensures in
-    let is : p at ≡ p (get_or order k at) = ap p here in
-    let e = c.in_ok-mark_public.ensures.grown in
-    let same = c.mark_public.ensures.same in
+    let is : c.publics.result.now ≡ p (get_or order k at) = c.publics.ensures ∙ ap p here in
+    let e = c.in_ok-mark_all-2.ensures.grown in
+    let same = c.mark_all-in-reach.ensures.same in
     let longer : length new ≡ length order + length e.more = ap length e.is ∙ length-append order e.more in
     record {
-      marked = c.in_ok-mark_public.ensures.marked c.reach.invariant.marked;
-      listed = c.mark_public.ensures.listed c.reach.invariant.listed;
+      marked = c.in_ok-mark_all-2.ensures.marked c.reach.invariant.marked;
+      listed = c.mark_all-in-reach.ensures.listed c.reach.invariant.listed;
       room = subst (λ n. length files ≡ n) (sym same) c.reach.invariant.room;
       within = omega (arith, longer);
       searching = subst (λ n. Searching n p starts new (take (k + 1) new)) (sym same)
           (search_more (length marks) p starts order new k at lt c.reach.invariant.searching
           (subst (λ xs. Extends (Contains xs) order new) is e)
-          (λ g h l. c.in_ok-mark_public.ensures.there c.reach.invariant.marked g (subst (λ xs. Contains xs g) (sym is) h) l));
+          (λ g h l. c.in_ok-mark_all-2.ensures.there c.reach.invariant.marked g (subst (λ xs. Contains xs g) (sym is) h) l));
     }
 
 pub returns-clause-sees : goal.returns-clause-sees
