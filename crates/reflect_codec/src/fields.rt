@@ -1,8 +1,9 @@
 //! The fields of a record that is being read, and the readers of what they hold.
-ghost use Rattle.std.specs.Prelude.{◌≡◌, ℕ, ◌-◌, ◌++◌, List, IfOk, IfErr, IfSome, option_map, flat_map, length, string_bytes, unsigned_abs};
+ghost use Rattle.std.specs.Prelude.{◌≡◌, ◌≢◌, ℕ, ◌-◌, ◌++◌, List, IfOk, IfErr, IfSome, option_map, flat_map, length, string_bytes, unsigned_abs};
 ghost use Rattle.std.specs.List.{AllZip};
 ghost use Rattle.reflect_wire.specs.Faults.{ValueFault, TellsTrue};
 ghost use Rattle.reflect_wire.specs.Reads.{ReadsBy};
+ghost use Rattle.reflect_wire.specs.declared.wire_error.WireError.TheVariants.{Memory};
 ghost use Rattle.reflect_codec.specs.Faults.{BytesFault, OneOf, NumberFault, DoubleFault, PayloadFault, TextFault, PackedFault, NumbersFault, PlaceFault, PartFault, RecordFault, MergedFault};
 ghost use Rattle.reflect_codec.specs.Raw.{value_view, fields_view, IsRawValue, MoreFields, MoreNumbers};
 ghost use Rattle.reflect_codec.specs.Reading.{Value, Field, ReadsMeant, ReadsMeantBy, SpellsFields, values_at, IsText, IsNumber, IsInt32, IsInt64, IsBool, IsDouble, IsPayload, IsNumbers, IsPartBelow, IsRecord, IsLast, AreNumbers, AreJoined, IsMerged, SpellsNumbers, int32_of, HasPayload, ArePayloads};
@@ -278,7 +279,8 @@ impl<'b> Fields<'b> {
 
 impl<'b> RawValue<'b> {
     fn varint(self) -> Result<u64, WireError>
-        ensures { ReadsMeant IsNumber NumberFault (value_view self.entry) result }
+        ensures read { ReadsMeant IsNumber NumberFault (value_view self.entry) result }
+        ensures memory { IfErr result (λ e. e ≢ Memory) }
     {
         match self {
             RawValue::Varint(n) => Ok(n),
@@ -287,7 +289,9 @@ impl<'b> RawValue<'b> {
     }
 
     fn payload(self) -> Result<&'b [u8], WireError>
-        ensures { ReadsMeantBy (λ p. p.now) IsPayload PayloadFault (value_view self.entry) result }
+        ensures read { ReadsMeantBy (λ p. p.now) IsPayload PayloadFault (value_view self.entry)
+            result }
+        ensures memory { IfErr result (λ e. e ≢ Memory) }
     {
         match self {
             RawValue::Payload(payload) => Ok(payload),
@@ -297,8 +301,9 @@ impl<'b> RawValue<'b> {
 
     /// The payload of a record. `TooDeep` where none may lie below.
     pub fn record(self, levels: u32) -> Result<&'b [u8], WireError>
-        ensures { ReadsMeantBy (λ p. p.now) (HasPayload levels) (PlaceFault levels)
+        ensures read { ReadsMeantBy (λ p. p.now) (HasPayload levels) (PlaceFault levels)
             (value_view self.entry) result }
+        ensures memory { IfErr result (λ e. e ≢ Memory) }
     {
         let payload = self.payload()?;
         if levels == 0 {

@@ -82,7 +82,7 @@ message_from_fields-returns t c =
 pub message_type-returns-in_err-payload : goal.message_type-returns-in_err-payload
 message_type-returns-in_err-payload t c =
     let p = err_from_is_err_and c.from_residual.result c.from_residual.ensures.1 in
-    rw (p.1, p.2) (rejects (λ m h. let o = message_opens c.args.levels (value_view c.args.value) m h in (o.1.0, o.1.1)) (λ fault. fault_closes c.args.levels (value_view c.args.value) c.in_err-payload.field-0.0 (inl (inl fault))) c.in_err-payload.ensures)
+    rw (p.1, p.2) (rejects (λ m h. let o = message_opens c.args.levels (value_view c.args.value) m h in (o.1.0, o.1.1)) (λ fault. fault_closes c.args.levels (value_view c.args.value) c.in_err-payload.field-0.0 (inl (inl fault))) c.in_err-payload.ensures.read)
 
 pub message_type-returns-in_err-fields : goal.message_type-returns-in_err-fields
 message_type-returns-in_err-fields t c =
@@ -91,7 +91,7 @@ message_type-returns-in_err-fields t c =
     let v = value_view c.args.value in
     rw (p.1, p.2) (rejects (λ m h.
     let o = message_opens c.args.levels v m h in
-    (o.0, payload_fields c.args.levels (c.args.levels - 1) v c.in_ok-payload.payload.now o.0 c.in_ok-payload.ensures o.1)) (λ fault. fault_closes c.args.levels v c.in_err-fields.field-0.0 (inl (inr (c.in_ok-payload.payload.now, c.in_ok-payload.ensures, fault)))) c.in_err-fields.ensures.read)
+    (o.0, payload_fields c.args.levels (c.args.levels - 1) v c.in_ok-payload.payload.now o.0 c.in_ok-payload.ensures.read o.1)) (λ fault. fault_closes c.args.levels v c.in_err-fields.field-0.0 (inl (inr (c.in_ok-payload.payload.now, c.in_ok-payload.ensures.read, fault)))) c.in_err-fields.ensures.read)
 
 pub message_type-returns : goal.message_type-returns
 message_type-returns t c =
@@ -100,7 +100,7 @@ message_type-returns t c =
     takes_as (IsOpened levels) (IsMessage levels) (OpenedFault levels) (MessageFault levels) (value_view c.args.value) c.message_from_fields.result
     (message_closes levels (value_view c.args.value)) (message_opens levels (value_view c.args.value)) (fault_closes levels (value_view c.args.value))
     (whole_read (λ gs m. IsLevel (IsMessage (levels - 1)) (levels - 1) gs (out-DescriptorProto m)) (InLevel (MessageFault (levels - 1)) (levels - 1)) levels (levels - 1) (value_view c.args.value) fs c.message_from_fields.result
-    (c.in_ok-payload.payload.now, c.in_ok-payload.ensures, c.in_ok-fields.ensures.read)
+    (c.in_ok-payload.payload.now, c.in_ok-payload.ensures.read, c.in_ok-fields.ensures.read)
     (subst (λ k. ReadsMeant (λ gs m. IsLevel (IsMessage k) k gs (out-DescriptorProto m)) (InLevel (MessageFault k) k) fs c.message_from_fields.result) c.in_ok-fields.ensures.levels c.message_from_fields.ensures))
 
 pub message_types-returns-in_err-message_type : goal.message_types-returns-in_err-message_type

@@ -12,7 +12,7 @@ returns-in_err-payload c =
     let bits : to_z w32 (of_z w32 c.args.number) ≡ c.args.number = search rules in
     let p = err_from_is_err_and c.from_residual.result c.from_residual.ensures.1 in
     rw (p.1, p.2) (rejects_at c.unsigned_abs-wanted.result c.deref-field-items.result.now c.loop-field.field-index blank c.loop-field-test.true (unsigned_abs c.args.number) c.args.self.now.list.items (c.unsigned_abs-wanted.ensures.value ∙ ap unsigned_abs bits) c.deref-field-items.ensures.value
-    c.if-field-wanted.true IsPayload PayloadFault _ _ (λ o h. (h.0, h.1)) c.in_err-payload.ensures)
+    c.if-field-wanted.true IsPayload PayloadFault _ _ (λ o h. (h.0, h.1)) c.in_err-payload.ensures.read)
 
 pub loop-field-preserved : goal.loop-field-preserved
 loop-field-preserved c =
@@ -22,7 +22,7 @@ loop-field-preserved c =
           let p = w.in_ok-payload.field-0.now in
           let items = ap (λ (v : Vec ℕ Global). v.items) w.bytes-is in (
             i.0 ++ p ∷ [],
-            each_hit c.unsigned_abs-wanted.result c.deref-field-items.result.now c.loop-field.field-index blank c.loop-field-test.true IsPayload i.0 i.1 p w.if-field-wanted.true w.in_ok-payload.ensures,
+            each_hit c.unsigned_abs-wanted.result c.deref-field-items.result.now c.loop-field.field-index blank c.loop-field-test.true IsPayload i.0 i.1 p w.if-field-wanted.true w.in_ok-payload.ensures.read,
             items ∙ w.in_ok-extend_from_slice.ensures.items ∙ ap (λ bs. bs ++ p) i.2 ∙ sym (joins-push i.0 p),
           )
       | else-field-wanted w ↦

@@ -6,4 +6,4 @@ use Rattle.reflect_codec.proofs.fields.StringFieldValue.from_value.Goals as goal
 pub returns-in_err-payload : goal.returns-in_err-payload
 returns-in_err-payload c =
     let p = err_from_is_err_and c.from_residual.result c.from_residual.ensures.1 in
-    rw (p.1, p.2) (rejects (λ s h. text_is_payload _ _ h) (λ fault. inl fault) c.in_err-payload.ensures)
+    rw (p.1, p.2) (rejects (λ s h. text_is_payload _ _ h) (λ fault. inl fault) c.in_err-payload.ensures.read)
