@@ -1,7 +1,7 @@
 ghost use Rattle.std.specs.Prelude.{◌≡◌, None, Some, option_map};
 ghost use Rattle.option_parts.specs.Texts.{plain_words, said};
 
-use reflect_names::Label;
+use reflect_faults::Label;
 use reflect_wire::WireError;
 use std::alloc::{AllocError, AllocFailed};
 use std::error::Error;

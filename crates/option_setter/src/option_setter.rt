@@ -18,7 +18,7 @@ use option_parts::OptionErrorKind;
 use reflect_format::Target;
 use reflect_link::{DescriptorPool, Kind, MessageDescriptor};
 use reflect_message::{DynamicMessage, Value};
-use reflect_names::{ResolveNameError, ResolveNameFilter, SeenFiles, resolve_name};
+use reflect_scope::{ResolveNameError, ResolveNameFilter, SeenFiles, resolve_name};
 use reflect_wire::MAX_LEVELS;
 use std::alloc::{AllocError, Global};
 

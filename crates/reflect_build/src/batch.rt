@@ -22,9 +22,9 @@ ghost use Rattle.reflect_build.specs.Accepted.{AddsRecords, FaultlessBatch, Faul
 
 use descriptor_records::FileDescriptorProto;
 use name_table::NameTable;
+use reflect_faults::Faults;
 use reflect_growth::{append, are_from, are_within};
 use reflect_index::rewritten;
-use reflect_names::Faults;
 use reflect_passes::{
     DescriptorError, LinkedTypes, add_links, check_numbers, declare_names, index_files,
     list_extensions, resolve_references, walk_error,

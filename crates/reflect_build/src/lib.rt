@@ -8,6 +8,6 @@ mod forget;
 mod many;
 
 pub use build::BuildFiles;
+pub use reflect_faults::DescriptorErrorKind;
 pub use reflect_growth::Edit;
-pub use reflect_names::DescriptorErrorKind;
 pub use reflect_passes::DescriptorError;

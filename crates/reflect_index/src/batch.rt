@@ -2,10 +2,10 @@ ghost use Rattle.std.specs.Prelude.{◌≡◌, map, IfOk};
 ghost use Rattle.reflect_tables.specs.Views.{file_of, record_file, record_of, declared_of, places_of};
 
 use descriptor_records::FileDescriptorProto;
-use reflect_names::VisitError;
 use reflect_tables::{
     Declared, StoredEnum, StoredExtension, StoredFile, StoredMessage, StoredService, Tables,
 };
+use reflect_walk::VisitError;
 use std::alloc::Global;
 
 /// The entries of new files, which have no place in a pool yet.

@@ -6,9 +6,9 @@ ghost use Rattle.reflect_tables.specs.Views.{children_of, declared_of};
 ghost use Rattle.reflect_index.specs.Children.{KeepsRest, draft_children, with_child, with_place, with_service, ListsIn, ListsOutside};
 
 use crate::drafts::{MessageDraft, local_place};
-use reflect_names::VisitError;
 use reflect_scope::{FileIndex, MessageIndex, ServiceIndex};
 use reflect_tables::{Child, Children, Declared};
+use reflect_walk::VisitError;
 use std::alloc::{AllocError, Global};
 
 /// Nothing declared. Takes no memory.

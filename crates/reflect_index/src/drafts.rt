@@ -4,12 +4,12 @@ ghost use Rattle.std.specs.Prelude.{◌≡◌, ◌+◌, ◌-◌, [], IfOk};
 
 use crate::batch::Batch;
 use crate::finish::{finished_enums, finished_messages};
-use reflect_names::VisitError;
 use reflect_scope::{FileIndex, MessageIndex};
 use reflect_tables::{
     Children, Declared, NumberRanges, StoredExtension, StoredField, StoredOneof, StoredService,
     StoredValue,
 };
+use reflect_walk::VisitError;
 use std::alloc::Global;
 
 /// A message type whose fields and oneofs may not all be there yet.

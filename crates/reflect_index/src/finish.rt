@@ -11,8 +11,8 @@ ghost use Rattle.reflect_index.specs.Grown.{oneof_name};
 
 use crate::drafts::{EnumDraft, MessageDraft};
 use crate::index::{field_list, value_list};
-use reflect_names::VisitError;
 use reflect_tables::{FieldList, StoredEntry, StoredEnum, StoredField, StoredMessage, StoredOneof};
+use reflect_walk::VisitError;
 use std::alloc::{AllocError, Global};
 
 /// The key and the value, where the type is one of a map's entries: its fields of the numbers 1 and

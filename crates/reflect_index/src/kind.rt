@@ -8,10 +8,10 @@ ghost use Rattle.reflect_index.specs.Entries.{IsMeant, IsTyped, HasKind};
 
 use descriptor_records::{FieldDescriptorProto, FieldType};
 use reflect_fields::scalar_kind;
-use reflect_names::{DefinitionKind, VisitError};
 use reflect_references::References;
-use reflect_scope::MessageIndex;
+use reflect_scope::{DefinitionKind, MessageIndex};
 use reflect_tables::StoredKind;
+use reflect_walk::VisitError;
 
 /// The message that is meant.
 pub fn message_meant(meant: Option<DefinitionKind>) -> Result<MessageIndex, VisitError>

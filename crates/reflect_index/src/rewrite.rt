@@ -11,7 +11,8 @@ use descriptor_records::{
     DescriptorProto, FieldDescriptorProto, FieldType, FileDescriptorProto, MethodDescriptorProto,
     ServiceDescriptorProto,
 };
-use reflect_names::{DefinitionKind, Reference};
+use reflect_names::Reference;
+use reflect_scope::DefinitionKind;
 use std::vec;
 
 /// What the references mean that were not rewritten yet.

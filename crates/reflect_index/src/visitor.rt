@@ -17,7 +17,7 @@ use descriptor_records::{
     FileDescriptorProto, MethodDescriptorProto, OneofDescriptorProto, ServiceDescriptorProto,
 };
 use reflect_fields::{extension_entry, field_entry, text_copy};
-use reflect_names::{Offsets, Reference, VisitError, Visitor};
+use reflect_names::Reference;
 use reflect_references::References;
 use reflect_scope::{
     EnumIndex, EnumValueIndex, ExtensionIndex, FieldIndex, FileIndex, MessageIndex, MethodIndex,
@@ -27,7 +27,7 @@ use reflect_tables::{
     Child, Declared, NumberRanges, StoredExtension, StoredField, StoredMethod, StoredOneof,
     StoredService, StoredValue, Syntax, syntax_of,
 };
-use reflect_walk::says_map_entry;
+use reflect_walk::{Offsets, VisitError, Visitor, says_map_entry};
 use std::alloc::Global;
 
 /// Makes the entries of the declarations that it visits.

@@ -21,11 +21,11 @@ use option_parts::{OptionErrorKind, OptionScope, move_locations};
 use option_setter::NameScope;
 use reflect_build::Edit;
 use reflect_link::DescriptorPool;
-use reflect_names::{SeenFiles, VisitError, Visitor};
 use reflect_scope::{
     EnumIndex, EnumValueIndex, ExtensionIndex, FieldIndex, FileIndex, MessageIndex, MethodIndex,
-    OneofIndex, ServiceIndex,
+    OneofIndex, SeenFiles, ServiceIndex,
 };
+use reflect_walk::{VisitError, Visitor};
 use std::alloc::{AllocError, Global};
 use std::collections::BTreeMap;
 use std::mem;

@@ -15,9 +15,10 @@ use crate::options_visitor::OptionsVisitor;
 use descriptor_records::{FileDescriptorProto, Location};
 use option_parts::{OptionError, OptionErrorKind, check_option_types};
 use reflect_build::{BuildFiles, Edit};
+use reflect_faults::{Label, SourceSpan};
 use reflect_link::{DescriptorPool, FileDescriptor};
-use reflect_names::{Label, Offsets, SourceSpan, VisitError, visit};
 use reflect_scope::FileIndex;
+use reflect_walk::{Offsets, VisitError, visit};
 use std::alloc::{AllocError, Global};
 
 /// Options, read by the types of the pool that they stand in.

@@ -5,7 +5,8 @@ ghost use Rattle.reflect_faults.specs.FaultPlaces.{label_of, located_of, moved};
 ghost use Rattle.reflect_faults.specs.FaultTexts.{said};
 ghost use Rattle.reflect_passes.specs.Texts.{begins, place_text, told_at};
 
-use reflect_names::{DescriptorErrorKind, Label, VisitError};
+use reflect_faults::{DescriptorErrorKind, Label};
+use reflect_walk::VisitError;
 use std::alloc::{AllocError, Global};
 use std::error::Error;
 use std::iter::{Chain, Once, once};

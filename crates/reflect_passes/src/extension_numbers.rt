@@ -12,10 +12,11 @@ use crate::error::DescriptorError;
 use crate::linked_types::LinkedTypes;
 use crate::passes::{walk_error, without_faults};
 use descriptor_records::tag;
-use reflect_names::{DescriptorErrorKind, Faults, VisitError};
+use reflect_faults::{DescriptorErrorKind, Faults};
 use reflect_rules::Types;
 use reflect_scope::{ExtensionIndex, MessageIndex};
 use reflect_tables::StoredExtension;
+use reflect_walk::VisitError;
 use std::alloc::{AllocError, Global};
 use std::collections::BTreeMap;
 

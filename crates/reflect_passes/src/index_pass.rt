@@ -15,8 +15,9 @@ ghost use Rattle.reflect_index.specs.DraftNames.{stored_message_name, stored_enu
 
 use descriptor_records::FileDescriptorProto;
 use reflect_index::{Batch, IndexVisitor};
-use reflect_names::{Links, Offsets, Reference, VisitError, links_of, visit_all};
-use reflect_scope::FileIndex;
+use reflect_names::{Reference, links_of};
+use reflect_scope::{FileIndex, Links};
+use reflect_walk::{Offsets, VisitError, visit_all};
 use std::alloc::Global;
 use std::collections::BTreeMap;
 

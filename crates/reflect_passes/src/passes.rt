@@ -19,12 +19,11 @@ use crate::error::DescriptorError;
 use crate::linked_types::LinkedTypes;
 use descriptor_records::FileDescriptorProto;
 use name_table::NameTable;
-use reflect_names::{
-    Definition, DescriptorErrorKind, Faults, Links, NameVisitor, Offsets, Reference,
-    ResolveVisitor, VisitError, name_files,
-};
+use reflect_faults::{DescriptorErrorKind, Faults};
+use reflect_names::{NameVisitor, Reference, ResolveVisitor, name_files};
 use reflect_rules::check_rules;
-use reflect_scope::FileIndex;
+use reflect_scope::{Definition, FileIndex, Links};
+use reflect_walk::{Offsets, VisitError};
 use std::alloc::Global;
 use std::collections::BTreeMap;
 use std::mem;

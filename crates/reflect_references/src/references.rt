@@ -1,7 +1,8 @@
 ghost use Rattle.std.specs.Prelude.{◌≡◌};
 ghost use Rattle.reflect_references.specs.Meanings.{meaning, behind};
 
-use reflect_names::{DefinitionKind, Reference};
+use reflect_names::Reference;
+use reflect_scope::DefinitionKind;
 
 /// What the references of files mean that a walk over them has not met yet.
 #[derive(Clone, Copy)]

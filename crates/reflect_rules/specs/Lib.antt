@@ -1,5 +1,6 @@
 pub mod EnumRules
 pub mod MapEntries
+pub mod Numbered
 pub mod Numbers
 pub mod Repeats
 pub mod RulePass

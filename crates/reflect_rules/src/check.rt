@@ -6,9 +6,11 @@ use crate::rule_visitor::RuleVisitor;
 use crate::types::Types;
 use crate::uses::UseVisitor;
 use descriptor_records::FileDescriptorProto;
-use reflect_names::{DescriptorErrorKind, Faults, Offsets, Reference, VisitError, visit_all};
+use reflect_faults::{DescriptorErrorKind, Faults};
+use reflect_names::Reference;
 use reflect_references::References;
 use reflect_scope::FileIndex;
+use reflect_walk::{Offsets, VisitError, visit_all};
 use std::alloc::Global;
 
 /// All that is wrong with the numbers, defaults, oneof indexes and map entries of the files.

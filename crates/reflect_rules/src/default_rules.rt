@@ -8,8 +8,8 @@ ghost use Rattle.reflect_rules.specs.Rules.{IsSuited, IsDefaultOf, default_fault
 use crate::types::Types;
 use descriptor_records::{FieldDescriptorProto, FieldType, tag};
 use reflect_defaults::read_default;
-use reflect_names::{DefinitionKind, DescriptorErrorKind, Faults};
-use reflect_scope::FileIndex;
+use reflect_faults::{DescriptorErrorKind, Faults};
+use reflect_scope::{DefinitionKind, FileIndex};
 use std::alloc::{AllocError, Global};
 
 /// The text is a default of the scalar type that has the number.

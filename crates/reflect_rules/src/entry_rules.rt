@@ -9,8 +9,8 @@ use crate::map_entry::has_entry_shape;
 use crate::types::Types;
 use crate::uses::EntryUse;
 use descriptor_records::DescriptorProto;
-use reflect_names::{DefinitionKind, DescriptorErrorKind, Faults};
-use reflect_scope::{FileIndex, MessageIndex};
+use reflect_faults::{DescriptorErrorKind, Faults};
+use reflect_scope::{DefinitionKind, FileIndex, MessageIndex};
 use reflect_walk::says_map_entry;
 use std::alloc::{AllocError, Global};
 

@@ -1,14 +1,14 @@
 //! The rules of enums (protobuf.dev, "Enumerations").
 
-ghost use Rattle.std.specs.Prelude.{◌≡◌, OnOk, IfOk, map, pos};
-ghost use Rattle.reflect_faults.specs.Faults.{Adds, place_at, duplicate_enum_number};
-ghost use Rattle.reflect_rules.specs.Repeats.{repeat_fault, listed};
+ghost use Rattle.std.specs.Prelude.{◌≡◌, OnOk, IfOk, map};
+ghost use Rattle.reflect_faults.specs.Faults.{Adds, place_at};
 ghost use Rattle.reflect_rules.specs.EnumRules.{allows_aliases as may_alias, alias_faults, first_faults, enum_faults};
 
-use crate::numbers::{entry_label, repeated};
+use crate::repeats::{Numbered, entry_label, list_repeats};
 use descriptor_records::{EnumDescriptorProto, EnumValueDescriptorProto, tag};
-use reflect_names::{DescriptorErrorKind, Faults, VisitError};
+use reflect_faults::{DescriptorErrorKind, Faults};
 use reflect_scope::FileIndex;
+use reflect_walk::VisitError;
 use std::alloc::{AllocError, Global};
 
 /// Two values of the enum may have one number.
@@ -19,42 +19,6 @@ fn allows_aliases(enumeration: &EnumDescriptorProto) -> bool
         Some(options) => options.allow_alias.unwrap_or(false),
         None => false,
     }
-}
-
-/// Lists that the value at a place has a number that an earlier value has.
-fn list_repeat(
-    alloc: Global,
-    faults: &mut Faults<'_>,
-    file: FileIndex,
-    path: &[i32],
-    place: usize,
-    number: i32,
-) -> Result<(), VisitError>
-    ensures { OnOk result (Adds faults.old faults.new
-        (repeat_fault duplicate_enum_number (pos 2) (pos 2) path.now (place_at faults.old file)
-        (place, number))) }
-{
-    let (list, field) = (tag::enumeration::VALUE, tag::enum_value::NUMBER);
-    let found = entry_label(alloc, faults, file, path, list, place, field)?;
-    faults.push(DescriptorErrorKind::DuplicateEnumNumber { number, found })?;
-    Ok(())
-}
-
-fn list_repeats(
-    alloc: Global,
-    faults: &mut Faults<'_>,
-    file: FileIndex,
-    path: &[i32],
-    repeats: &[(usize, i32)],
-) -> Result<(), VisitError>
-    ensures { OnOk result (Adds faults.old faults.new
-        (listed duplicate_enum_number (pos 2) (pos 2) path.now (place_at faults.old file)
-        repeats.now)) }
-{
-    'turns: for repeat in repeats {
-        list_repeat(alloc, faults, file, path, repeat.0, repeat.1)?;
-    }
-    Ok(())
 }
 
 /// The numbers of values, None where one has none.
@@ -86,9 +50,14 @@ fn check_values(
         return Ok(());
     }
     let numbers = value_numbers(alloc, enumeration.value.as_slice())?;
-    let again = repeated(alloc, numbers.as_slice())?;
-    list_repeats(alloc, faults, file, path, again.as_slice())?;
-    Ok(())
+    list_repeats(
+        alloc,
+        faults,
+        file,
+        path,
+        Numbered::EnumValues,
+        numbers.as_slice(),
+    )
 }
 
 /// Lists the first value of a proto3 enum that is not 0.

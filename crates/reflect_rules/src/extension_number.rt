@@ -7,8 +7,8 @@ ghost use Rattle.reflect_rules.specs.Rules.{message_of, ExtensionNumber};
 use crate::entry_rules::message_meant;
 use crate::numbers::{check_extension, check_reserved};
 use crate::types::{Types, find_in};
-use reflect_names::{DefinitionKind, Faults};
-use reflect_scope::FileIndex;
+use reflect_faults::Faults;
+use reflect_scope::{DefinitionKind, FileIndex};
 use std::alloc::{AllocError, Global};
 
 /// Lists what is wrong with the number of an extension of a message type.

@@ -9,6 +9,7 @@ mod enums;
 mod extension_number;
 mod map_entry;
 mod numbers;
+mod repeats;
 mod rule_visitor;
 mod types;
 mod uses;

@@ -1,17 +1,18 @@
 //! The rules of the numbers of fields and extensions (protobuf.dev, "Assigning Field Numbers").
 
-ghost use Rattle.std.specs.Prelude.{◌≡◌, ◌∷◌, ◌++◌, [], OnOk, IfOk, map, pos};
+ghost use Rattle.std.specs.Prelude.{◌≡◌, OnOk, IfOk, map, pos};
 ghost use Rattle.reflect_declarations.specs.Tree.{parts_of};
-ghost use Rattle.reflect_declarations.specs.Declarations.{entry};
-ghost use Rattle.reflect_faults.specs.Faults.{Adds, place_at, place_of, duplicate_number};
+ghost use Rattle.reflect_faults.specs.Faults.{Adds, place_at, duplicate_number};
 ghost use Rattle.reflect_rules.specs.Numbers.{is_field_number as may_number, number_faults, reserved_faults, kept_faults, outside_faults, oneof_faults};
-ghost use Rattle.reflect_rules.specs.Repeats.{repeats, repeat_fault, listed, repeat_faults};
+ghost use Rattle.reflect_rules.specs.Repeats.{repeat_faults};
 
+use crate::repeats::{Numbered, list_repeats};
 use descriptor_records::{DescriptorProto, FieldDescriptorProto, MAX_FIELD_NUMBER, tag};
-use reflect_names::{DescriptorErrorKind, Faults, Label, VisitError, entry_path, is_index};
+use reflect_faults::{DescriptorErrorKind, Faults};
+use reflect_names::is_index;
 use reflect_scope::FileIndex;
+use reflect_walk::VisitError;
 use std::alloc::{AllocError, Global};
-use std::collections::BTreeSet;
 
 /// A field may have the number: one from 1 to the highest that is not kept for protobuf's own use.
 fn is_field_number(number: i32) -> bool
@@ -116,76 +117,6 @@ pub fn check_extension(
     })
 }
 
-/// Those of the numbers that stand earlier too, each behind its place.
-pub fn repeated(alloc: Global, numbers: &[Option<i32>]) -> Result<Vec<(usize, i32)>, AllocError>
-    ensures { IfOk result (λ found. found.items ≡ repeats numbers.now) }
-{
-    let mut seen = BTreeSet::new(alloc);
-    let mut repeated = Vec::new(alloc);
-    'turns: for (place, number) in numbers.iter().enumerate() {
-        if let Some(number) = *number {
-            if !seen.insert(number)? {
-                repeated.push((place, number))?;
-            }
-        }
-    }
-    Ok(repeated)
-}
-
-/// The place of the field of the number `field` of a list's entry. The list of faults stays as it
-/// is. `TooMany` is an entry past `i32::MAX`.
-pub fn entry_label(
-    alloc: Global,
-    faults: &mut Faults<'_>,
-    file: FileIndex,
-    path: &[i32],
-    tag: i32,
-    place: usize,
-    field: i32,
-) -> Result<Label, VisitError>
-    ensures place { IfOk result (λ l. place_of l
-        ≡ place_at faults.old file (entry path.now tag place ++ (field ∷ []))) }
-    ensures same { Adds faults.old faults.new [] }
-{
-    let at = entry_path(alloc, path, tag, place)?;
-    Ok(faults.label_at(alloc, file, at.as_slice(), field)?)
-}
-
-/// Lists that the field at a place has a number that an earlier field has.
-fn list_repeat(
-    alloc: Global,
-    faults: &mut Faults<'_>,
-    file: FileIndex,
-    path: &[i32],
-    place: usize,
-    number: i32,
-) -> Result<(), VisitError>
-    ensures { OnOk result (Adds faults.old faults.new
-        (repeat_fault duplicate_number (pos 2) (pos 3) path.now (place_at faults.old file)
-        (place, number))) }
-{
-    let (list, field) = (tag::message::FIELD, tag::field::NUMBER);
-    let found = entry_label(alloc, faults, file, path, list, place, field)?;
-    faults.push(DescriptorErrorKind::DuplicateFieldNumber { number, found })?;
-    Ok(())
-}
-
-fn list_repeats(
-    alloc: Global,
-    faults: &mut Faults<'_>,
-    file: FileIndex,
-    path: &[i32],
-    repeats: &[(usize, i32)],
-) -> Result<(), VisitError>
-    ensures { OnOk result (Adds faults.old faults.new
-        (listed duplicate_number (pos 2) (pos 3) path.now (place_at faults.old file) repeats.now)) }
-{
-    'turns: for repeat in repeats {
-        list_repeat(alloc, faults, file, path, repeat.0, repeat.1)?;
-    }
-    Ok(())
-}
-
 /// The numbers of fields, None where one has none.
 fn field_numbers(
     alloc: Global,
@@ -214,9 +145,14 @@ pub fn check_distinct(
         (map (λ f. f.number) (parts_of message.now).field))) }
 {
     let numbers = field_numbers(alloc, message.field.as_slice())?;
-    let again = repeated(alloc, numbers.as_slice())?;
-    list_repeats(alloc, faults, file, path, again.as_slice())?;
-    Ok(())
+    list_repeats(
+        alloc,
+        faults,
+        file,
+        path,
+        Numbered::Fields,
+        numbers.as_slice(),
+    )
 }
 
 /// Lists a field's oneof that its message, which has so many of them, does not have.

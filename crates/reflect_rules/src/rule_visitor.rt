@@ -13,13 +13,14 @@ use descriptor_records::{
     DescriptorProto, EnumDescriptorProto, EnumValueDescriptorProto, FieldDescriptorProto,
     FileDescriptorProto, MethodDescriptorProto, OneofDescriptorProto, ServiceDescriptorProto,
 };
-use reflect_names::{Faults, VisitError, Visitor};
+use reflect_faults::Faults;
 use reflect_references::References;
 use reflect_scope::{
     EnumIndex, EnumValueIndex, ExtensionIndex, FieldIndex, FileIndex, MessageIndex, MethodIndex,
     OneofIndex, ServiceIndex,
 };
 use reflect_tables::{Syntax, syntax_of};
+use reflect_walk::{VisitError, Visitor};
 use std::alloc::Global;
 use std::collections::BTreeMap;
 

@@ -12,12 +12,12 @@ use descriptor_records::{
     FieldType, FileDescriptorProto, Label, MethodDescriptorProto, OneofDescriptorProto,
     ServiceDescriptorProto,
 };
-use reflect_names::{DefinitionKind, VisitError, Visitor};
 use reflect_references::References;
 use reflect_scope::{
-    EnumIndex, EnumValueIndex, ExtensionIndex, FieldIndex, FileIndex, MessageIndex, MethodIndex,
-    OneofIndex, ServiceIndex,
+    DefinitionKind, EnumIndex, EnumValueIndex, ExtensionIndex, FieldIndex, FileIndex, MessageIndex,
+    MethodIndex, OneofIndex, ServiceIndex,
 };
+use reflect_walk::{VisitError, Visitor};
 use std::alloc::{AllocError, Global};
 use std::collections::BTreeMap;
 

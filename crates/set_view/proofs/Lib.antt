@@ -1,12 +1,12 @@
 mod Entered
-mod Extended
+pub mod Extended
 pub mod Given
 pub mod Keyed
 mod Lasting
 mod Leaving
 mod Listed
 mod Longer
-mod Mapped
+pub mod Mapped
 mod Numbered
 mod Owned
 pub mod Parts

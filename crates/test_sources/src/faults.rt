@@ -4,10 +4,10 @@ use crate::shown::write_shown;
 use descriptor_records::FileDescriptorProto;
 use name_table::NameTable;
 use protox_parse::parse;
-use reflect_names::{
-    DescriptorErrorKind, Faults, Label, NameVisitor, Offsets, SourceSpan, VisitError, name_files,
-};
+use reflect_faults::{DescriptorErrorKind, Faults, Label, SourceSpan};
+use reflect_names::{NameVisitor, name_files};
 use reflect_passes::DescriptorError;
+use reflect_walk::{Offsets, VisitError};
 use std::alloc::{AllocError, Global};
 use std::collections::BTreeMap;
 use std::ops::Range;

@@ -1,7 +1,7 @@
 -- Messages whose lists and maps take further values suit their types, and are tidy, where they did and were.
-use Rattle.std.proofs.Common.{◌≡◌, ◌≢◌, ◌⊎◌, inl, inr, ℕ, ◌++◌, true, false, true≢false, List, [], Option, None, Some, refl, sym, ap, ◌∙◌, subst}
+use Rattle.std.proofs.Common.{◌≡◌, ◌≢◌, inl, ℕ, ◌++◌, true, false, true≢false, List, [], Option, None, Some, refl, sym, ap, ◌∙◌, subst}
 use Rattle.std.specs.List.{AllByRecursion, list_all}
-use Rattle.std.specs.Prelude.{IfSome, MatchOption}
+use Rattle.std.specs.Prelude.{IfSome}
 use Rattle.reflect_tables.specs.Types.{FieldType, PoolType}
 use Rattle.reflect_pool.specs.FieldsLeft.{field_type}
 use Rattle.reflect_pool.specs.Shapes.{holds_list, holds_map, is_repeated}
@@ -10,15 +10,13 @@ use Rattle.reflect_pool.specs.declared.field.FieldDescriptor.{FieldDescriptor}
 use Rattle.reflect_entries.specs.Entries.{IsAscending, value_at}
 use Rattle.reflect_scalar.specs.FieldTypes.{extension_type}
 use Rattle.reflect_extend.specs.Gives.{Entry}
-use Rattle.reflect_extend.specs.Puts.{PutsAll, PutsEntries}
+use Rattle.reflect_extend.specs.Puts.{PutsEntries}
 use Rattle.reflect_message.specs.Declares.{Owns, OwnsExtension}
-use Rattle.reflect_message.specs.Held.{choices_of, extensions_of, fields_of}
+use Rattle.reflect_message.specs.Held.{extensions_of, fields_of}
 use Rattle.reflect_message.specs.Known.{entry_field, holds_floats, known_extension, known_field}
 use Rattle.reflect_message.specs.Lists.{Lengthens, items_held}
 use Rattle.reflect_message.specs.Maps.{entries_held}
 use Rattle.reflect_message.specs.Names.{DynamicMessage, Value}
-use Rattle.reflect_message.specs.Oneofs.{sibling}
-use Rattle.reflect_message.proofs.Choosing.{is_or_not}
 use Rattle.reflect_decode.proofs.Sorts.{no_float_values}
 use Rattle.reflect_numbered.specs.Fits.{extension_fits, field_fits, fits_of, suits_type}
 use Rattle.reflect_numbered.specs.declared.validity.Strictness.{Strictness}
@@ -26,10 +24,11 @@ use Rattle.reflect_numbered.specs.declared.validity.Strictness.TheVariants.{Surf
 use Rattle.protobuf_model.proofs.Arranged.{all_append}
 use Rattle.protobuf_model.proofs.Lists.{all_map}
 use Rattle.message_view.specs.Sound.{IsSound}
-use Rattle.message_view.proofs.Changed.{StaysOrGoes}
 use Rattle.message_view.proofs.Entries.{entry_of_map}
 use Rattle.message_view.proofs.Fields.{extension_owned, extension_whole, owned, owned_whole}
 use Rattle.set_view.specs.Extends.{ExtendsExtension, ExtendsField}
+use Rattle.set_view.proofs.Extended.{stays_or_goes}
+use Rattle.set_view.proofs.Mapped.{filled}
 use Rattle.valid_view.specs.Given.{GivenWith, IsSuitedIn}
 use Rattle.valid_view.proofs.Entries.{Gives, puts_each}
 use Rattle.valid_view.proofs.Given.{given_typed}
@@ -38,17 +37,6 @@ use Rattle.valid_view.proofs.Setting.{again, changed_passes, one_deep}
 use Rattle.valid_view.proofs.Testing as testing
 use Rattle.valid_view.proofs.Testing.{field_whole, halves, under_extension, under_field}
 use Rattle.valid_view.proofs.Valid.{IsEntry, One, Whole, no_map, one_of, whole_list, whole_map, whole_of, whole_one}
-
--- under another number stands what stood there, or nothing
-pub stays_or_goes : (old new : DynamicMessage) (f : FieldDescriptor) → ExtendsField old new f → (n : ℕ) → n ≢ (field_type f).number → StaysOrGoes (fields_of old) (fields_of new) n
-stays_or_goes old new f extends n other = by (is_or_not (sibling f (choices_of old)) n) where
-  by : (sibling f (choices_of old) ≡ Some n) ⊎ (sibling f (choices_of old) ≢ Some n) → StaysOrGoes (fields_of old) (fields_of new) n
-  by (inl noted) = extends.noted n noted
-  by (inr apart) = inl (extends.others n other apart)
-
--- what was put into a map
-pub filled : (old new : Option Value) (before : List Entry) (vs : List Value) → entries_held old ≡ Some before → PutsEntries old new vs → (after : List Entry) × (entries_held new ≡ Some after) × PutsAll before after vs
-filled old new before vs at puts = subst (λ o. MatchOption o (new ≡ old) (λ (before : List Entry). (after : List Entry) × (entries_held new ≡ Some after) × PutsAll before after vs)) at puts
 
 -- ---- what then stands under the number
 module _ (how : Strictness) (pool : PoolType) (f : FieldType) where

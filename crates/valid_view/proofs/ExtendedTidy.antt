@@ -34,7 +34,7 @@ use Rattle.valid_view.specs.Given.{GivenWith}
 use Rattle.valid_view.specs.Inside.{EachMessage, IfMessage}
 use Rattle.valid_view.specs.Tidy.{Tidy}
 use Rattle.valid_view.proofs.Entries.{Gives, puts_each}
-use Rattle.valid_view.proofs.Extended.{stays_or_goes}
+use Rattle.set_view.proofs.Extended.{stays_or_goes}
 use Rattle.valid_view.proofs.Given.{given_tidy}
 use Rattle.valid_view.proofs.LeftValues.{list_each, map_each}
 use Rattle.valid_view.proofs.Stemming.{Given, put_stems, same_stems, tidy_stems}

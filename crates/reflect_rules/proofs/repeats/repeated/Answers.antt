@@ -3,8 +3,8 @@ use Rattle.std.specs.BTreeSet.{contains}
 use Rattle.std.specs.Ordering.{int_cmp, int_eq}
 use Rattle.std.proofs.lemmas.List.{append-nil}
 use Rattle.reflect_rules.proofs.Again.{seen_none, found_none, seen_more, found_more}
-use Rattle.reflect_rules.proofs.numbers.repeated.Goals as goal
-use Rattle.reflect_rules.proofs.numbers.repeated.Goals.{in-Some+in_ok-insert+then-not-branch+in_ok-push, in-Some+in_ok-insert+else-not-branch, in_default}
+use Rattle.reflect_rules.proofs.repeats.repeated.Goals as goal
+use Rattle.reflect_rules.proofs.repeats.repeated.Goals.{in-Some+in_ok-insert+then-not-branch+in_ok-push, in-Some+in_ok-insert+else-not-branch, in_default}
 
 pub turns-preserved : goal.turns-preserved
 turns-preserved c =

@@ -4,7 +4,7 @@ use Rattle.std.specs.Ordering.{int_cmp}
 use Rattle.std.specs.BTreeSet.{contains}
 use Rattle.reflect_declarations.specs.Declarations.{each}
 use Rattle.reflect_rules.specs.Repeats.{is_number, repeat_at}
-use Rattle.reflect_rules.proofs.numbers.repeated.Given as goal
+use Rattle.reflect_rules.proofs.repeats.repeated.Given as goal
 
 abbrev pub invariant-turns : goal.invariant-turns
 invariant-turns l = record {
