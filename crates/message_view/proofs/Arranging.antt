@@ -17,7 +17,7 @@ use Rattle.reflect_message.specs.Known.{known_field, known_extension}
 use Rattle.reflect_message.specs.Names.{DynamicMessage, Value}
 use Rattle.message_laws.specs.MapKeys.{HaveMapKeys}
 use Rattle.protobuf_model.specs.Values as model
-use Rattle.protobuf_model.specs.Values.{Held, records}
+use Rattle.protobuf_model.specs.Values.{Held}
 use Rattle.protobuf_model.specs.Types.{Field, Types}
 use Rattle.protobuf_model.specs.Meaning.{payloads}
 use Rattle.protobuf_model.specs.Bytes.{field_numbers, numbered, run, is_declared, arranged, payloads_under, bytes_of}

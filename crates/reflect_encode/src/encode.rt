@@ -1,7 +1,7 @@
 //! From a message to wire bytes, which are put from the last to the first: so the length of what
 //! stands behind a key is known when the key is put.
 
-ghost use Rattle.std.specs.Prelude.{◌≡◌, ℕ, List, ◌++◌, map, OnOk, IfOk, is_some, option_map, reverse};
+ghost use Rattle.std.specs.Prelude.{◌≡◌, List, ◌++◌, map, OnOk, IfOk, is_some, option_map, reverse};
 ghost use Rattle.reflect_codec.specs.Held.{held};
 ghost use Rattle.reflect_codec.specs.Fields.{payload_field};
 ghost use Rattle.std.specs.List.{flat_map};
@@ -12,7 +12,7 @@ ghost use Rattle.reflect_scalar.specs.FieldTypes.{either_pool, either_type, fiel
 ghost use Rattle.reflect_scalar.specs.Keys.{key_view};
 ghost use Rattle.reflect_scalar.specs.Singles.{scalar_view};
 ghost use Rattle.reflect_pool.specs.FieldsLeft.{field_type};
-ghost use Rattle.reflect_message.specs.Bytes.{form_of, forms, message_bytes, parts_bytes, declared_bytes, others_down, content_bytes, record_in, row_in, list_bytes, entry_bytes, map_bytes, key_part};
+ghost use Rattle.reflect_message.specs.Bytes.{form_of, forms, message_bytes, parts_bytes, declared_bytes, others_down, content_bytes, record_in, row_in, list_bytes, map_bytes, key_part};
 ghost use Rattle.reflect_encode.specs.Puts.{form, bare_bytes, single_bytes, row_bytes};
 ghost use Rattle.reflect_message.specs.Singles.{single};
 

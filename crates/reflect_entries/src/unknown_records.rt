@@ -1,6 +1,6 @@
 //! The records of numbers that a message's type does not declare.
 
-ghost use Rattle.std.specs.Prelude.{◌≡◌, ◌↔◌, ◌<◌, ◌^◌, ◌++◌, [], map, length, IsTrue, IfOk, OnOk, OnErr, SomeIff};
+ghost use Rattle.std.specs.Prelude.{◌≡◌, ◌↔◌, ◌<◌, ◌^◌, ◌++◌, [], length, IsTrue, IfOk, OnOk, OnErr, SomeIff};
 ghost use Rattle.std.proofs.Props.{props};
 ghost use Rattle.reflect_wire.specs.Encoding.{records_bytes};
 ghost use Rattle.reflect_wire.specs.Views.{field_view, records_of};

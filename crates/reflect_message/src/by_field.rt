@@ -6,7 +6,7 @@ ghost use Rattle.reflect_pool.specs.FieldsLeft.{field_type};
 ghost use Rattle.reflect_scalar.specs.FieldTypes.{field_pool};
 ghost use Rattle.reflect_entries.specs.Entries.{IsAscending, value_at};
 ghost use Rattle.reflect_message.specs.Declares.{Declares, Owns};
-ghost use Rattle.reflect_message.specs.Held.{fields_of, choices_of, extensions_of, unknown_of, UpdatesField};
+ghost use Rattle.reflect_message.specs.Held.{fields_of, extensions_of, unknown_of, UpdatesField};
 ghost use Rattle.reflect_message.specs.Oneofs.{IsExclusive, SetsField};
 ghost use Rattle.reflect_message.specs.Present.{held_if_set, is_held};
 ghost use Rattle.reflect_message.specs.Shown.{Shows};

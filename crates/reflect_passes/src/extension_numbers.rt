@@ -3,7 +3,7 @@
 ghost use Rattle.std.specs.Prelude.{◌≡◌, ◌+◌, ◌||◌, ◌++◌, ◌∷◌, [], pos, length, OnOk, IfOk, IfErr};
 ghost use Rattle.std.specs.Int.{w32, cast_signed};
 ghost use Rattle.reflect_faults.specs.Faults.{Adds, list_of, place_at, duplicate_extension};
-ghost use Rattle.reflect_passes.specs.Errors.{faults_of, ListsFaults};
+ghost use Rattle.reflect_passes.specs.Errors.{ListsFaults};
 ghost use Rattle.reflect_tables.specs.ExtensionNumbers.{KeyType, KeepsNumbers, numbers_of};
 ghost use Rattle.reflect_passes.specs.Extensions.{has_key, is_known, is_taken, with_number, with_numbers, double_faults, extension_faults};
 ghost use Rattle.reflect_passes.specs.Linked.{linked_says};

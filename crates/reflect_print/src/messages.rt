@@ -24,16 +24,7 @@ ghost use Rattle.reflect_print.specs.MessageTexts.{
   IsValueUnder,
   before_value,
 };
-ghost use Rattle.reflect_print.specs.Named.{
-  IsEnumText,
-  Named,
-  kind_given,
-  kind_held,
-  kind_view,
-  label_of,
-  named,
-  value_kind,
-};
+ghost use Rattle.reflect_print.specs.Named.{IsEnumText, kind_given, kind_held, label_of, value_kind};
 ghost use Rattle.print_parts.specs.Parts.{other_entry, url_of};
 ghost use Rattle.reflect_print.specs.Written.{IsExpansion, IsSpan, WritesFor};
 ghost use Rattle.std.specs.Prelude.{◌≡◌, IfOk, None, OnOk, Some, true, false};

@@ -4,7 +4,7 @@ ghost use Rattle.std.specs.Prelude.{◌≡◌, IfErr, IfOk, string_bytes};
 ghost use Rattle.text_lines.specs.Appends.{UnlessOutputRefused, WritesOne};
 ghost use Rattle.text_lines.specs.UnknownTexts.{IsPayloadText, IsRecordText};
 ghost use Rattle.text_lines.specs.declared.error.WriteError.TheVariants.{Memory};
-ghost use Rattle.reflect_print.specs.MessageTexts.{IsItemsText, IsValueText, IsMessageText};
+ghost use Rattle.reflect_print.specs.MessageTexts.{IsValueText, IsMessageText};
 ghost use Rattle.reflect_print.specs.Named.{kind_given};
 ghost use Rattle.reflect_wire.specs.Views.{field_view};
 

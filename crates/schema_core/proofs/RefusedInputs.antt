@@ -1,5 +1,5 @@
 -- How bytes and texts of a type are refused, and inputs that they are the payload of.
-use Rattle.std.proofs.Common.{◌≡◌, ◌⊎◌, inl, inr, ℕ, Bool, true, List, Option, None, Some, IfSome, Result, Ok, Err, IfErr, sym, subst}
+use Rattle.std.proofs.Common.{◌≡◌, ◌⊎◌, inl, inr, ℕ, Bool, List, Option, None, Some, IfSome, Result, Ok, Err, IfErr, sym, subst}
 use Rattle.reflect_wire.specs.declared.wire_error.WireError.{WireError}
 use Rattle.reflect_wire.specs.declared.wire_error.WireError.TheVariants as wire
 use Rattle.reflect_tables.specs.Types.{PoolType}

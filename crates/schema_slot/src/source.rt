@@ -1,6 +1,6 @@
 //! Sources that wait to be linked.
 
-ghost use Rattle.std.specs.Prelude.{◌≡◌, IfOk, map, string_bytes};
+ghost use Rattle.std.specs.Prelude.{◌≡◌, IfOk, map};
 ghost use Rattle.schema_core.specs.Refusals.{sources_of};
 ghost use Rattle.schema_slot.specs.Held.{pair_of};
 

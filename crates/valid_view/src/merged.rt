@@ -1,7 +1,7 @@
 //! Laws of messages into which bytes are merged, and of those whose lists and maps take further
 //! values: they suit their types at each depth, and are tidy, where they did and were. What such a
 //! call leaves where it is refused, its own contract says, or it is one that put fewer values.
-ghost use Rattle.std.specs.Prelude.{◌≡◌, ◌≤◌, List, false, suc, true, ℕ};
+ghost use Rattle.std.specs.Prelude.{◌≡◌, ◌≤◌, List, suc, true, ℕ};
 ghost use Rattle.std.specs.List.{AllByRecursion};
 ghost use Rattle.reflect_decode.specs.Spelled.{IsMerged};
 ghost use Rattle.reflect_entries.specs.Entries.{IsAscending, value_at};

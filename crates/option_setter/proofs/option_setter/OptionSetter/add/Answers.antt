@@ -1,4 +1,4 @@
-use Rattle.std.proofs.Common.{rules, ◌≡◌, ◌++◌, ◌∷◌, [], ℤ, true, Vec, Global, if◌then◌else◌, refl, inr, sym, ap, ◌∙◌, append-nil, to_z, of_z, w32}
+use Rattle.std.proofs.Common.{rules, ◌≡◌, ◌++◌, ◌∷◌, [], ℤ, Vec, Global, if◌then◌else◌, refl, inr, sym, ap, ◌∙◌, append-nil, to_z, of_z, w32}
 use Rattle.std.proofs.lemmas.Result.{err_from_is_err_and}
 use Rattle.descriptor_records.specs.Content.{option_view}
 use Rattle.reflect_format.specs.Steps.{held_by}

@@ -1,5 +1,5 @@
 -- Where nothing stands under the number the default is put there.
-use Rattle.std.proofs.Common.{length, arith}
+use Rattle.std.proofs.Common.{arith}
 use Rattle.std.proofs.lemmas.List.Edits.{length-insert}
 use Rattle.std.proofs.lemmas.Slice.Zip.{length-zip}
 use Rattle.reflect_entries.proofs.Side.{stays, put_default, there_now, sorted_in}

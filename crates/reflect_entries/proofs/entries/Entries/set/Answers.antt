@@ -1,5 +1,5 @@
 -- The value goes over what stood under the number, or beside the number in its place.
-use Rattle.std.proofs.Common.{length, arith, Result, Ok, Err, OnOk, OnErr}
+use Rattle.std.proofs.Common.{arith, Result, Ok, Err, OnOk, OnErr}
 use Rattle.std.proofs.lemmas.List.Edits.{length-insert}
 use Rattle.reflect_entries.proofs.Side.{put_in, put_over, sorted_in}
 use Rattle.reflect_entries.proofs.Zips.{ascend_from}

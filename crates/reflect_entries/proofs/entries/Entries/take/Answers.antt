@@ -1,5 +1,5 @@
 -- The number and its value go out of their places.
-use Rattle.std.proofs.Common.{length, sym, ap, ◌∙◌, arith}
+use Rattle.std.proofs.Common.{sym, ap, ◌∙◌, arith}
 use Rattle.std.proofs.lemmas.List.Edits.{length-remove}
 use Rattle.reflect_entries.specs.Entries.{value_at}
 use Rattle.reflect_entries.proofs.Side.{got, not_got, took, sorted_out, left}
