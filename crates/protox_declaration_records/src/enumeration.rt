@@ -1,8 +1,8 @@
 //! The records of enums.
 
-ghost use Rattle.std.specs.Prelude.{◌≡◌, ◌++◌, IfOk, OnOk, map, option_map, string_bytes};
+ghost use Rattle.std.specs.Prelude.{◌≡◌, ◌++◌, IfOk, OnOk, map, option_map};
 ghost use Rattle.std.specs.List.{flat_map};
-ghost use Rattle.descriptor_records.specs.Content.{enum_value_view, enum_view, option_view, options_view, texts_view};
+ghost use Rattle.descriptor_records.specs.Content.{enum_value_view, enum_view, options_view, texts_view};
 ghost use Rattle.protox_declaration_records.specs.EnumRecords as enums;
 ghost use Rattle.protox_declaration_records.specs.OptionRecords.{options_of};
 

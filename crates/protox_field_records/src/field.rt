@@ -1,8 +1,8 @@
 //! The records of fields, and of the types of map entries.
 
 ghost use Rattle.std.specs.Prelude.{◌≡◌, ◌++◌, ◌||◌, IfOk, None, OnOk, codes, map, option_map, string_bytes};
-ghost use Rattle.std.specs.List.{flat_map, fold};
-ghost use Rattle.descriptor_records.specs.Content.{field_view, message_view, option_view, options_view};
+ghost use Rattle.std.specs.List.{flat_map};
+ghost use Rattle.descriptor_records.specs.Content.{field_view, message_view, options_view};
 ghost use Rattle.protox_declaration_records.specs.OptionRecords.{options_of};
 ghost use Rattle.protox_field_records.specs.FieldName.{field_name_of};
 ghost use Rattle.protox_field_records.specs.FieldRecords as fields;

@@ -6,7 +6,7 @@ ghost use Rattle.protox_tokens.specs.Left.{left};
 ghost use Rattle.protox_tokens.specs.Reads.{Reads};
 ghost use Rattle.protox_tokens.specs.Stream.{stream};
 ghost use Rattle.protox_tree.specs.Nest as nest;
-ghost use Rattle.protox_tree.specs.NestView.{kind_view, message_view, item_view, items_view, field_view, member_view, members_view, oneof_view, added_view, added_items_view, extend_view};
+ghost use Rattle.protox_tree.specs.NestView.{kind_view, message_view, item_view, items_view, field_view, member_view, oneof_view, added_view, extend_view};
 
 use descriptor_records::Label;
 use protox_declarations::enumeration;

@@ -6,7 +6,6 @@ ghost use Rattle.descriptor_records.specs.Content as content;
 ghost use Rattle.protox_declaration_records.specs.OptionRecords.{options_of};
 ghost use Rattle.protox_record.specs.FileRecords as files;
 ghost use Rattle.protox_message_records.specs.MessageRecords.{AddsTypes, AreTypes};
-ghost use Rattle.protox_tree.specs.FileTree.{syntax_of};
 ghost use Rattle.protox_tree.specs.FileView as tree;
 
 use crate::import::{dependencies, places};

@@ -1,6 +1,5 @@
 -- A fault of tokens that is told is one that the text has.
 use Rattle.protox_lex.specs.Class.{Text}
-use Rattle.protox_lex.specs.Longest.{Lexes}
 use Rattle.protox_lex.specs.TextFormat.{format_fault}
 use Rattle.protox_lex.specs.Token.{Token, ident, int, float, str, sign, comment, Lexeme, token_at, fault_at}
 use Rattle.protox_lex.specs.declared.error.LexError.{LexError}
@@ -9,9 +8,9 @@ use Rattle.protox_lex.specs.declared.error.LexErrorKind.TheVariants as kinds
 use Rattle.protox_lex.specs.declared.span.Span.{Span}
 use Rattle.protox_tokens.proofs.Local.{IsAt, Local, LocalAt}
 use Rattle.protox_tokens.specs.Parser.{Parser}
-use Rattle.protox_tokens.specs.Refusal.{Expected, Fault, lexical, misplaced, refusal}
+use Rattle.protox_tokens.specs.Refusal.{Expected, lexical, misplaced, refusal}
 use Rattle.protox_tokens.specs.Stream.{HasLexical, IsRead, Piece, piece, last, Mode, source, text, Stream, gather}
-use Rattle.std.proofs.Common.{◌≡◌, ◌⊎◌, inl, inr, ℕ, List, [], ◌∷◌, ◌++◌, Option, Some, None, Err, refl, ap, sym, subst, ◌∙◌, arith}
+use Rattle.std.proofs.Common.{◌≡◌, ◌⊎◌, inl, inr, ℕ, List, [], ◌∷◌, ◌++◌, Option, Some, None, Err, refl, sym, subst, ◌∙◌, arith}
 use Rattle.std.proofs.lemmas.List.Elements.{Contains-append_right}
 use Rattle.std.specs.List.{Contains}
 

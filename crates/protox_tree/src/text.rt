@@ -14,7 +14,7 @@ pub struct Strings {
 
 impl Strings {
     ghost use Rattle.protox_tree.specs.Tree as tree;
-    ghost use Rattle.protox_tree.specs.View.{strings_view, literal_view, literals_view};
+    ghost use Rattle.protox_tree.specs.View.{strings_view, literals_view};
 
     /// The string that these literals mean together; at least one.
     pub fn from_literals(literals: Vec<Literal>) -> Strings

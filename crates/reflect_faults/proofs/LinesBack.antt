@@ -1,10 +1,9 @@
 -- The line and the column that are told of a place in a source lead back to it.
-use Rattle.std.proofs.Common.{◌≡◌, ℕ, zero, suc, ◌+◌, ◌-◌, ◌<◌, ◌≤◌, ◌⊎◌, inl, inr, Bool, true, false, cond, nat_le, nat_lt, ℤ, pos, List, [], ◌∷◌, fold, drop, get_or, length, eqb, Option, None, Some, refl, ap, sym, subst, ◌∙◌, arith}
+use Rattle.std.proofs.Common.{◌≡◌, ℕ, zero, suc, ◌+◌, ◌-◌, ◌<◌, ◌≤◌, ◌⊎◌, inl, inr, Bool, true, false, cond, nat_le, nat_lt, List, [], ◌∷◌, fold, drop, get_or, length, eqb, Option, None, Some, refl, ap, sym, subst, ◌∙◌, arith}
 use Rattle.std.proofs.lemmas.Bool.{cases_lt, eqb-true, le-leb, le-ltb, lt-ltb}
 use Rattle.std.proofs.lemmas.List.{drop_more}
 use Rattle.std.proofs.lemmas.List.Sums.{sum_by-cons}
 use Rattle.std.specs.Option.{option_and_then}
-use Rattle.std.specs.declared.ops.Range.{Range}
 use Rattle.memchr.specs.Find.{is_byte, places_from}
 use Rattle.protox_lex.specs.Lines.{column_at, feeds_of, later_start, line_at, span_at, start_at}
 use Rattle.reflect_faults.proofs.Lines.{behind, past_end, past_other, starts_at_zero}

@@ -1,4 +1,4 @@
-ghost use Rattle.std.specs.Prelude.{◌≡◌, ◌++◌, ◌∷◌, [], ◌↔◌, IsTrue, IfOk, OnOk, IfSome, map, Option, Some, None, pos};
+ghost use Rattle.std.specs.Prelude.{◌≡◌, ◌++◌, ◌∷◌, [], ◌↔◌, IsTrue, IfOk, OnOk, IfSome, map, Option, Some, None};
 ghost use Rattle.std.proofs.Props.{props};
 ghost use Rattle.reflect_faults.specs.Spans.{locations, locations_at, span_among};
 

@@ -1,6 +1,6 @@
 //! What a field's record says about it, in the words of the pool.
 
-ghost use Rattle.std.specs.Prelude.{◌≡◌, false, IfOk, option_map, string_bytes, unwrap_or, not};
+ghost use Rattle.std.specs.Prelude.{◌≡◌, false, IfOk, option_map, string_bytes, unwrap_or};
 ghost use Rattle.reflect_declarations.specs.Tree.{text_of as as_text};
 ghost use Rattle.reflect_tables.specs.Views.{field_of, kind_of};
 ghost use Rattle.reflect_fields.specs.Fields.{label_of, scalar_type, is_packable as may_pack, is_packed as packs, has_presence, is_number, natural, IsField, IsExtension};

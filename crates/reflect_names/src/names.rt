@@ -1,8 +1,8 @@
-ghost use Rattle.std.specs.Prelude.{◌≡◌, ℕ, ◌<◌, ◌≤◌, OnOk, [], pos, is_some};
+ghost use Rattle.std.specs.Prelude.{◌≡◌, ◌<◌, ◌≤◌, OnOk, [], is_some};
 ghost use Rattle.reflect_scope.specs.Means.{scopes};
 ghost use Rattle.reflect_scope.specs.Known.{known_of, declared, may_repeat as repeats};
 ghost use Rattle.reflect_faults.specs.Faults.{Adds, place_at};
-ghost use Rattle.reflect_known.specs.KnownNames.{named, packages, package_of};
+ghost use Rattle.reflect_known.specs.KnownNames.{named, packages};
 ghost use Rattle.reflect_names.specs.Names.{taken, name_faults, package_faults, syntax_faults};
 ghost use Rattle.reflect_names.specs.NameSteps.{KeepsKnown};
 

@@ -1,6 +1,6 @@
-ghost use Rattle.std.specs.Prelude.{◌≡◌, OnOk, pos, Some, is_some};
+ghost use Rattle.std.specs.Prelude.{◌≡◌, OnOk, Some, is_some};
 ghost use Rattle.reflect_declarations.specs.Tree.{parts_of};
-ghost use Rattle.reflect_declarations.specs.Declarations.{each, entry};
+ghost use Rattle.reflect_declarations.specs.Declarations.{each};
 ghost use Rattle.reflect_faults.specs.Faults.{Adds, place_at};
 ghost use Rattle.reflect_names.specs.Names.{lacks, is_named_type as names_a_type, field_faults, method_faults, bound_faults, extension_range_faults, reserved_range_faults, enum_range_faults};
 ghost use Rattle.std.specs.Prelude.{◌++◌};

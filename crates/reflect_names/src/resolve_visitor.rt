@@ -89,7 +89,7 @@ impl<'a> ResolveVisitor<'a> {
     ghost use Rattle.reflect_scope.specs.Means.{Meaning, Answers};
     ghost use Rattle.reflect_faults.specs.Faults.{place_at, invalid_type};
     ghost use Rattle.reflect_names.specs.References.{meaning_of, targets, unmet, kind_meant, name_targets, reference_faults, mismatch, label_faults, type_faults, type_name_faults, field_reference_faults};
-    ghost use Rattle.reflect_names.specs.ReferenceSteps.{Finds, IsSame, ResolvesFiles, Stays, view_of, target_of};
+    ghost use Rattle.reflect_names.specs.ReferenceSteps.{Finds, IsSame, ResolvesFiles, Stays, view_of};
     ghost use Rattle.reflect_declarations.specs.Batches.{past_files};
 
     /// Adds to `faults`. `names` has what all full names stand for, and `links` what all files

@@ -1,5 +1,5 @@
 -- The files of a pool by their names.
-use Rattle.std.proofs.Common.{◌≡◌, ℕ, ◌<◌, ◌≤◌, List, Bool, true, false, cond, nat_lt, Option, Some, None, is_some, bytes_eq, length, slice_get, get_or, ap, sym, ◌∙◌, arith, refl}
+use Rattle.std.proofs.Common.{◌≡◌, ℕ, ◌<◌, ◌≤◌, List, Bool, true, false, cond, nat_lt, Option, Some, None, is_some, bytes_eq, length, get_or, ap, sym, ◌∙◌, arith, refl}
 use Rattle.std.proofs.Math.ListN.{length-map}
 use Rattle.std.proofs.lemmas.List as lists
 use Rattle.std.proofs.lemmas.List.Sums.{fails_before_first, passes_at_first}

@@ -1,5 +1,5 @@
 -- The extensions of a pool by their messages and numbers.
-use Rattle.std.proofs.Common.{◌≡◌, ℕ, ◌<◌, List, Bool, false, Option, Some, None, is_some, map, length, slice_get, get_or, ap, sym, ◌∙◌, arith, refl}
+use Rattle.std.proofs.Common.{◌≡◌, ℕ, ◌<◌, List, Bool, false, Option, Some, None, is_some, map, length, get_or, ap, sym, ◌∙◌, arith, refl}
 use Rattle.std.proofs.Math.ListN.{length-map}
 use Rattle.std.proofs.lemmas.List as lists
 use Rattle.std.proofs.lemmas.Cmp.{nat_cmp_total, then_total, on_total}

@@ -1,5 +1,5 @@
 -- What the entries at places of a pool name is there.
-use Rattle.std.proofs.Common.{◌≡◌, ℕ, ◌<◌, map, length, get_or, arith, sym, subst}
+use Rattle.std.proofs.Common.{◌≡◌, ℕ, ◌<◌, length, get_or, arith, sym, subst}
 use Rattle.std.proofs.Math.ListN.{length-map}
 use Rattle.std.specs.List.{All}
 use Rattle.reflect_tables.specs.Types.{PoolType, FieldType, MessageType, OneofType, ServiceType, ArePooled, IsAmong, IsWithin, ChildrenWithin, HoldsWithin, FileWithin, MessageWithin, EnumWithin, ExtensionWithin, MethodWithin, ServiceWithin, counts_of, no_type, no_service}

@@ -1,4 +1,4 @@
-ghost use Rattle.std.specs.Prelude.{◌≡◌, ◌<◌, ℕ, length, None, Some, IfSome, IsSome, MatchOption};
+ghost use Rattle.std.specs.Prelude.{◌≡◌, ◌<◌, length, None, Some, IfSome, IsSome, MatchOption};
 ghost use Rattle.reflect_tables.specs.Types.{IsAmong, IsWithin, counts_of, type_at, type_of_field};
 ghost use Rattle.reflect_tables.specs.Views.{field_of, kind_of};
 

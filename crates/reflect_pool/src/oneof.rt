@@ -1,4 +1,4 @@
-ghost use Rattle.std.specs.Prelude.{◌≡◌, ◌<◌, All, length, map, IfSome};
+ghost use Rattle.std.specs.Prelude.{◌≡◌, ◌<◌, All, length, map};
 ghost use Rattle.std.proofs.Props.{props};
 ghost use Rattle.reflect_tables.specs.Types.{type_at, type_of_field};
 ghost use Rattle.reflect_tables.specs.Views.{oneof_of};

@@ -1,6 +1,6 @@
 //! What fields and extensions have in common.
 
-ghost use Rattle.std.specs.Prelude.{◌≡◌, length};
+ghost use Rattle.std.specs.Prelude.{◌≡◌};
 ghost use Rattle.reflect_tables.specs.Types.{IsWithin, counts_of};
 ghost use Rattle.reflect_tables.specs.Views.{field_of, kind_of};
 ghost use Rattle.reflect_pool.specs.Defaults.{HasNumber, IsDefault};

@@ -1,5 +1,5 @@
 //! Lines and columns of a text.
-ghost use Rattle.std.specs.Prelude.{◌≡◌, length};
+ghost use Rattle.std.specs.Prelude.{◌≡◌};
 ghost use Rattle.text_error.specs.Places.{line_and_column_at};
 
 use memchr::memchr_iter;

@@ -1,4 +1,4 @@
-use Rattle.std.proofs.Common.{◌≡◌, ℤ, None, Some, map, subst, sym, rules, w32, to_z, of_z}
+use Rattle.std.proofs.Common.{◌≡◌, ℤ, None, Some, map, subst, sym, rules, w32}
 use Rattle.std.proofs.lemmas.Int.{to_z-of_z}
 use Rattle.reflect_tables.specs.Finding.{IsFirst}
 use Rattle.reflect_tables.specs.Types.{EnumType, ValueType}
