@@ -1,8 +1,8 @@
 -- Faults that stand at paths of one file, or of several: lists of them.
-use Rattle.std.proofs.Common.{◌≡◌, ◌+◌, ℕ, ℤ, Bool, true, false, List, [], ◌∷◌, ◌++◌, Some, cond, refl}
+use Rattle.std.proofs.Common.{◌≡◌, ◌+◌, ℕ, ℤ, Bool, true, false, List, [], ◌∷◌, ◌++◌, Some, cond}
 use Rattle.std.specs.List.{AllByRecursion}
 use Rattle.reflect_declarations.specs.Declarations.{each}
-use Rattle.reflect_faults.specs.Faults.{Fault, Place, place_of_fault}
+use Rattle.reflect_faults.specs.Faults.{Fault, place_of_fault}
 use Rattle.reflect_names.specs.Names.{Places}
 
 -- the fault stands at a path of the file with these places

@@ -1,5 +1,5 @@
 -- The faults of files that are refused for how they link stand in these files.
-use Rattle.std.proofs.Common.{◌≡◌, ◌∙◌, inl, inr, ℕ, ℤ, List, [], ◌∷◌, Option, None, Some, IfSome, ap, map, subst, sym}
+use Rattle.std.proofs.Common.{◌≡◌, ◌∙◌, inl, inr, ℕ, ℤ, List, [], ◌∷◌, Option, Some, IfSome, ap, map, subst, sym}
 use Rattle.std.specs.List.{AllByRecursion}
 use Rattle.descriptor_records.specs.declared.file.FileDescriptorProto.{FileDescriptorProto}
 use Rattle.option_parts.specs.TypedOptions.{TypedFiles}

@@ -3,11 +3,8 @@ use Rattle.std.specs.declared.alloc.Global.{Global}
 use Rattle.std.proofs.Common.{◌≡◌, ◌+◌, ℕ, ℤ, pos, Bool, true, false, not, ◌||◌, List, [], ◌∷◌, ◌++◌, Option, None, Some, String, codes, length, refl}
 use Rattle.std.specs.Prelude.{is_some, string_bytes}
 use Rattle.std.specs.Str.{bytes_eq}
-use Rattle.descriptor_records.specs.declared.enums.EnumReservedRange.{EnumReservedRange}
 use Rattle.descriptor_records.specs.declared.field.FieldDescriptorProto.{FieldDescriptorProto}
 use Rattle.descriptor_records.specs.declared.file.FileDescriptorProto.{FileDescriptorProto}
-use Rattle.descriptor_records.specs.declared.message.ExtensionRange.{ExtensionRange}
-use Rattle.descriptor_records.specs.declared.message.ReservedRange.{ReservedRange}
 use Rattle.descriptor_records.specs.declared.service.MethodDescriptorProto.{MethodDescriptorProto}
 use Rattle.reflect_declarations.specs.Batches.{batch_declarations}
 use Rattle.reflect_declarations.specs.Declarations.{Body, Declaration, each, entry, of_enum, of_enum_value, of_extension, of_field, of_file, of_message, of_method, of_oneof, of_service}

@@ -1,7 +1,6 @@
 -- A source that has all types of options lacks none, however it is linked.
 use Rattle.std.proofs.Common.{◌≡◌, ◌∙◌, inl, inr, List, [], ◌∷◌, Some, map, ap, sym, subst}
 use Rattle.descriptor_records.specs.Content.{FileContent, file_view}
-use Rattle.descriptor_records.specs.declared.file.FileDescriptorProto.{FileDescriptorProto}
 use Rattle.option_parts.specs.OptionTypes.{ReadsOptions, TellsRequired, scope_at, type_name}
 use Rattle.option_parts.specs.TypedOptions.{typed_file}
 use Rattle.option_parts.specs.declared.option_error.OptionErrorKind.{OptionErrorKind}

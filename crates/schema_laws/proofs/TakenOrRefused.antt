@@ -1,12 +1,11 @@
 -- What links is not refused for how it links.
 use Rattle.std.proofs.Common.{◌≡◌, ◌∙◌, ◌≤◌, ◌+◌, ◌^◌, inl, inr, ℕ, List, ◌∷◌, map, ap, sym, subst}
 use Rattle.std.specs.List.{filter}
-use Rattle.std.specs.Prelude.{sum_by}
 use Rattle.descriptor_records.specs.Content.{FileContent, file_view, set_view}
 use Rattle.descriptor_records.specs.declared.file.FileDescriptorProto.{FileDescriptorProto}
 use Rattle.descriptor_records.specs.declared.file.FileDescriptorSet.{FileDescriptorSet}
 use Rattle.option_parts.specs.TypedOptions.{typed_file}
-use Rattle.reflect_build.specs.Many.{entries_of, in_file}
+use Rattle.reflect_build.specs.Many.{entries_of}
 use Rattle.reflect_build.specs.Refusals.{AreTooMany, IsOf, Linking, new_files}
 use Rattle.reflect_build.proofs.Parted.{one_new}
 use Rattle.reflect_bytes.specs.Spelled.{SpellsSet}
@@ -18,7 +17,7 @@ use Rattle.reflect_tables.specs.Types.{PoolType}
 use Rattle.schema_core.specs.Refusals.{FilesLinked, FilesRefused, IsPool, SetLinked, SetRefused, SourcesLinked, SourcesRefused}
 use Rattle.schema_core.specs.declared.error.SchemaError.TheVariants.{Link}
 use Rattle.schema_core.specs.declared.schema.Schema.{Schema}
-use Rattle.schema_view.specs.Lawful.{AddsLawful, IsLawful, Meanings}
+use Rattle.schema_view.specs.Lawful.{AddsLawful, IsLawful}
 use Rattle.schema_view.proofs.Batches.{one_built}
 use Rattle.types_view.specs.Typed.{IsTyped}
 use Rattle.types_view.proofs.Settled.{typed_more}

@@ -1,6 +1,6 @@
 //! Laws of the bytes that records store of options, each the contract of a function that does
 //! nothing.
-ghost use Rattle.std.specs.Prelude.{ℕ, List, map};
+ghost use Rattle.std.specs.Prelude.{List, map};
 ghost use Rattle.descriptor_records.specs.Content.{file_view};
 ghost use Rattle.descriptor_records.specs.declared.file.FileDescriptorProto.{FileDescriptorProto};
 ghost use Rattle.schema_laws.specs.StoredBytes.{SaysNothing, StoresBytes};

@@ -1,5 +1,5 @@
 -- What names of options lead to reads nothing of lines, columns and comments.
-use Rattle.std.proofs.Common.{Bool, true, false, List, ℕ, map, ap, subst, sym}
+use Rattle.std.proofs.Common.{Bool, true, false, List, ℕ, map, subst, sym}
 use Rattle.std.specs.Prelude.{MatchBool}
 use Rattle.std.specs.List.{Contains}
 use Rattle.descriptor_records.specs.Content.{FileContent, NameContent, Text, unlocated}

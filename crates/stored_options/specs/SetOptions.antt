@@ -1,12 +1,12 @@
 -- What options set in a message of options, in the words of the model of messages and texts
 -- (protobuf.dev, "Language Guide (proto 2)", Custom Options).
-use Rattle.std.specs.Prelude.{◌≡◌, ℕ, zero, suc, ℤ, List, [], ◌∷◌, length, false, Option, None, Some, option_map}
+use Rattle.std.specs.Prelude.{◌≡◌, ℕ, zero, suc, ℤ, List, [], ◌∷◌, length, false, Option, Some, option_map}
 use Rattle.std.specs.Int.{w32, cast_signed}
 use Rattle.descriptor_records.specs.Content.{NameContent, OptionContent}
 use Rattle.option_setter.specs.OptionValues.{scalar_said}
 use Rattle.option_setter.specs.SetOptions.{place_of}
 use Rattle.protobuf_model.specs.Meaning.{items, message_in}
-use Rattle.protobuf_model.specs.Types.{Name, Frame, nested, Label, one, many, keyed, Field}
+use Rattle.protobuf_model.specs.Types.{Name, Frame, nested, Label, one, many, Field}
 use Rattle.protobuf_model.specs.Values.{Content, single, message, content, Message, nothing}
 use Rattle.protox_lex.specs.Class.{Text}
 use Rattle.text_model.specs.Schemas.{Schema}
