@@ -25,9 +25,9 @@ abbrev pub TakesActions : ValueParser → Type 0
 TakesActions parser = (names : Bor (List (Bor Text))) × (parser ≡ parsers.Names names)
     × (texts names.now ≡ actions)
 
--- the argument is read by the rule, where it stands
-abbrev pub IsRead : Rule → Arg → Type 0
-IsRead rule a = (rule_of a ≡ rule) × (a.global ≡ false)
+-- the argument has this rule, and is read where it stands
+abbrev pub HasRule : Rule → Arg → Type 0
+HasRule rule a = (rule_of a ≡ rule) × (a.global ≡ false)
 
 -- what is asked for; it has to be there
 abbrev pub action_rule : ValueParser → Rule

@@ -6,7 +6,7 @@ ghost use Rattle.clap.specs.Simple.{app_of};
 ghost use Rattle.clap.specs.Walk.{rows_of, rule_of};
 ghost use Rattle.clap.specs.declared.builder.value_parser.ValueParser.{ValueParser};
 ghost use Rattle.schema_words.specs.Asked.{Asks, AsksNothing, AsksTask};
-ghost use Rattle.schema_words.specs.CommandLine.{AreRead, IsRead, TakesActions, action_rule};
+ghost use Rattle.schema_words.specs.CommandLine.{AreRead, HasRule, TakesActions, action_rule};
 ghost use Rattle.schema_words.specs.CommandLine.{app_with, hex_rule, names_rule, option_rule};
 ghost use Rattle.schema_words.specs.CommandLine.{root_rule};
 ghost use Rattle.schema_words.specs.declared.request.Task.{Task};
@@ -26,7 +26,7 @@ const EXAMPLES: &str = "Examples:
 
 /// What is done.
 fn action<'a>(alloc: Global) -> Arg<'a>
-    ensures { (parser : ValueParser) × TakesActions parser × IsRead (action_rule parser) result }
+    ensures { (parser : ValueParser) × TakesActions parser × HasRule (action_rule parser) result }
 {
     Arg::new(alloc, "action")
         .value_name("ACTION")
@@ -38,7 +38,7 @@ fn action<'a>(alloc: Global) -> Arg<'a>
 }
 
 fn descriptor<'a>(alloc: Global) -> Arg<'a>
-    ensures { IsRead (option_rule (codes "descriptor")) result }
+    ensures { HasRule (option_rule (codes "descriptor")) result }
 {
     Arg::new(alloc, "descriptor")
         .long("descriptor")
@@ -47,7 +47,7 @@ fn descriptor<'a>(alloc: Global) -> Arg<'a>
 }
 
 fn set<'a>(alloc: Global) -> Arg<'a>
-    ensures { IsRead (option_rule (codes "set")) result }
+    ensures { HasRule (option_rule (codes "set")) result }
 {
     Arg::new(alloc, "set")
         .long("set")
@@ -56,7 +56,7 @@ fn set<'a>(alloc: Global) -> Arg<'a>
 }
 
 fn type_name<'a>(alloc: Global) -> Arg<'a>
-    ensures { IsRead (option_rule (codes "type")) result }
+    ensures { HasRule (option_rule (codes "type")) result }
 {
     Arg::new(alloc, "type")
         .long("type")
@@ -65,7 +65,7 @@ fn type_name<'a>(alloc: Global) -> Arg<'a>
 }
 
 fn root<'a>(alloc: Global) -> Arg<'a>
-    ensures { IsRead root_rule result }
+    ensures { HasRule root_rule result }
 {
     Arg::new(alloc, "root")
         .long("root")
@@ -75,7 +75,7 @@ fn root<'a>(alloc: Global) -> Arg<'a>
 }
 
 fn hex<'a>(alloc: Global) -> Arg<'a>
-    ensures { IsRead hex_rule result }
+    ensures { HasRule hex_rule result }
 {
     Arg::new(alloc, "hex")
         .long("hex")
@@ -84,7 +84,7 @@ fn hex<'a>(alloc: Global) -> Arg<'a>
 }
 
 fn names<'a>(alloc: Global) -> Arg<'a>
-    ensures { IsRead names_rule result }
+    ensures { HasRule names_rule result }
 {
     Arg::new(alloc, "names")
         .value_name("NAMES")
