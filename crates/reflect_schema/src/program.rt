@@ -260,7 +260,7 @@ pub fn run<F: SourceFiles, R: Read, W: Write, E: Write>(
         Ok(()) => 0,
         Err(fault) => {
             let status = fault.status();
-            write_line(alloc, errors, fault);
+            let _ = write_line(alloc, errors, fault);
             status
         }
     }
