@@ -1,8 +1,8 @@
 -- Copies of messages mean what these do, and are in order where these are.
 use Rattle.std.proofs.Common.{◌≡◌, refl, sym, ◌∙◌}
 use Rattle.reflect_message.specs.Contents.{content_of}
-use Rattle.reflect_message.specs.Copies.{IsCopy}
-use Rattle.reflect_message.specs.InOrder.{IsInOrder}
+use Rattle.reflect_copies.specs.Copies.{IsCopy}
+use Rattle.reflect_copies.specs.InOrder.{IsInOrder}
 use Rattle.reflect_message.specs.Names.{DynamicMessage}
 use Rattle.reflect_decode.specs.Ordered.{IsOrdered}
 use Rattle.reflect_decode.proofs.InOrder.{message_tells}

@@ -8,10 +8,10 @@ use Rattle.reflect_entries.specs.Undeclared.{undeclared}
 use Rattle.reflect_scalar.specs.Keys.{key_view}
 use Rattle.reflect_scalar.specs.declared.map_key.MapKey.{MapKey}
 use Rattle.reflect_message.specs.Contents as contents
-use Rattle.reflect_message.specs.Copies.{AreCopies, IsCopy}
+use Rattle.reflect_copies.specs.Copies.{AreCopies, IsCopy}
 use Rattle.reflect_message.specs.Known.{known_field, known_extension}
-use Rattle.reflect_message.specs.Trees.{ValueTree, MessageTree, Place, Row, Dictionary, leaf, branch, row, parts, empty, full, no_values, more_values, place_of, row_of, dictionary_of, tree}
-use Rattle.reflect_message.specs.Trees as trees
+use Rattle.reflect_copies.specs.Trees.{ValueTree, MessageTree, Place, Row, Dictionary, leaf, branch, row, parts, empty, full, no_values, more_values, place_of, row_of, dictionary_of, tree}
+use Rattle.reflect_copies.specs.Trees as trees
 use Rattle.reflect_message.specs.Names.{DynamicMessage, Parts, Value}
 use Rattle.reflect_message.specs.Names as blocks
 use Rattle.reflect_message.specs.declared.parts.HeldOf.TheFolds.{map-HeldOf, map-ValueOf, map-MessageOf, map-PartsOf, fold-HeldOf, fold-MessageOf, fold-PartsOf, fold-roll-HeldOf, fold-roll-ValueOf, fold-roll-MessageOf, fold-roll-PartsOf, ind-ValueOf}

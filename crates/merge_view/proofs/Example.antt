@@ -2,7 +2,7 @@
 use Rattle.std.proofs.Common.{inl, [], refl, sym, append-nil}
 use Rattle.reflect_pool.specs.declared.message.MessageDescriptor.{MessageDescriptor}
 use Rattle.reflect_message.specs.Contents.{Content, content_of}
-use Rattle.reflect_message.specs.InOrder.{IsInOrder}
+use Rattle.reflect_copies.specs.InOrder.{IsInOrder}
 use Rattle.reflect_message.specs.Names.{DynamicMessage}
 use Rattle.reflect_decode.specs.Keeps.{numbered}
 use Rattle.reflect_decode.specs.Levels.{MergesAt}

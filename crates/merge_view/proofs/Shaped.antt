@@ -13,15 +13,15 @@ use Rattle.reflect_scalar.specs.FieldTypes.{extension_type}
 use Rattle.reflect_scalar.specs.Singles.{Single}
 use Rattle.reflect_scalar.specs.declared.map_key.MapKey.{MapKey}
 use Rattle.reflect_message.specs.Contents.{Content, content_of}
-use Rattle.reflect_message.specs.Copies.{AreCopies, IsCopy}
+use Rattle.reflect_copies.specs.Copies.{AreCopies, IsCopy}
 use Rattle.reflect_message.specs.Held.{choices_of, fields_of}
-use Rattle.reflect_message.specs.InOrder.{in_order, IsInOrder}
+use Rattle.reflect_copies.specs.InOrder.{in_order, IsInOrder}
 use Rattle.reflect_message.specs.Names.{DynamicMessage, Value}
 use Rattle.reflect_message.specs.Oneofs.{AreChosen, IsExclusive}
-use Rattle.reflect_message.specs.Trees.{ValueTree, tree, entry_tree}
-use Rattle.reflect_message.proofs.Alike.{content_alike, message_alike}
-use Rattle.reflect_message.proofs.Copying.{chosen_copied}
-use Rattle.reflect_message.proofs.InOrder.{entries_below, items_below, message_below}
+use Rattle.reflect_copies.specs.Trees.{ValueTree, tree, entry_tree}
+use Rattle.reflect_copies.proofs.Alike.{content_alike, message_alike}
+use Rattle.reflect_copies.proofs.Copying.{chosen_copied}
+use Rattle.reflect_copies.proofs.InOrder.{entries_below, items_below, message_below}
 use Rattle.reflect_decode.specs.Ordered.{AreInOrder, AreNumbered, Ascend, HoldsInOrder, IsOrdered, last}
 use Rattle.reflect_decode.proofs.InOrder.{message_tells}
 use Rattle.protobuf_model.specs.Meaning.{payloads}

@@ -5,12 +5,12 @@ use Rattle.reflect_scalar.specs.declared.map_key.MapKey.{MapKey}
 use Rattle.reflect_message.specs.Lists.{list_items}
 use Rattle.reflect_message.specs.Maps.{map_entries}
 use Rattle.reflect_message.specs.Singles.{single}
-use Rattle.reflect_message.specs.Trees.{ValueTree, MessageTree, Row, Dictionary, leaf, branch, row, dictionary, no_values, more_values, no_entries, more_entries, row_of, dictionary_of, held_step, value_step, message_step, parts_step, tree, held_tree, entry_tree}
+use Rattle.reflect_copies.specs.Trees.{ValueTree, MessageTree, Row, Dictionary, leaf, branch, row, dictionary, no_values, more_values, no_entries, more_entries, row_of, dictionary_of, held_step, value_step, message_step, parts_step, tree, held_tree, entry_tree}
 use Rattle.reflect_message.specs.Names.{DynamicMessage, Held, Parts, Value}
 use Rattle.reflect_message.specs.declared.parts.HeldOf.TheFolds.{map-ValueOf, fold_out-MessageOf, fold_out-ValueOf}
 use Rattle.reflect_message.specs.declared.parts.HeldOf.TheOpen.{ValueOf-F}
 use Rattle.reflect_message.specs.declared.parts.HeldOf.TheViews.{out-ValueOf}
-use Rattle.reflect_message.proofs.Alike.{Open, items_in, map_alike, map_seen}
+use Rattle.reflect_copies.proofs.Alike.{Open, items_in, map_alike, map_seen}
 use Rattle.reflect_pool.specs.declared.message.MessageDescriptor.{MessageDescriptor}
 use Rattle.message_view.proofs.Seen.{single_in}
 use Rattle.merge_view.proofs.Copied.{tree_held, tree_message, tree_parts}

@@ -2,8 +2,8 @@
 ghost use Rattle.std.specs.Prelude.{◌≡◌, Bool, ℕ};
 ghost use Rattle.reflect_decode.specs.Ordered.{IsOrdered};
 ghost use Rattle.reflect_message.specs.Contents.{content_of};
-ghost use Rattle.reflect_message.specs.Copies.{IsCopy};
-ghost use Rattle.reflect_message.specs.InOrder.{IsInOrder};
+ghost use Rattle.reflect_copies.specs.Copies.{IsCopy};
+ghost use Rattle.reflect_copies.specs.InOrder.{IsInOrder};
 ghost use Rattle.reflect_message.specs.Names.{DynamicMessage};
 ghost use Rattle.message_view.specs.Shaped.{HasShape};
 ghost use Rattle.message_view.specs.Views.{view};

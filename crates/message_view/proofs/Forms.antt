@@ -16,7 +16,7 @@ use Rattle.reflect_message.specs.Names as blocks
 use Rattle.reflect_message.specs.declared.parts.HeldOf.TheFolds.{map-ValueOf, map-HeldOf, fold-HeldOf, fold-ValueOf, fold-MessageOf, fold-PartsOf, fold_out-ValueOf, fold_out-HeldOf, fold_out-PartsOf, fold_out-MessageOf}
 use Rattle.reflect_message.specs.declared.parts.HeldOf.TheOpen.{HeldOf-F, ValueOf-F}
 use Rattle.reflect_message.specs.declared.parts.HeldOf.TheViews.{out-ValueOf}
-use Rattle.reflect_message.proofs.Alike.{Open, entries_in, items_in, message_of}
+use Rattle.reflect_copies.proofs.Alike.{Open, entries_in, items_in, message_of}
 use Rattle.message_view.proofs.Seen.{IsSeenAs, single_in, entries_opened, extensions_opened, unknown_opened}
 use Rattle.reflect_pool.specs.declared.message.MessageDescriptor.{MessageDescriptor}
 

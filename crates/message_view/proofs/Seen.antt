@@ -20,7 +20,7 @@ use Rattle.reflect_message.specs.declared.parts.HeldOf.{out-HeldOf}
 use Rattle.reflect_message.specs.Names as blocks
 use Rattle.reflect_message.specs.declared.parts.HeldOf.TheFolds.{map-ValueOf, map-HeldOf, fold-HeldOf, fold-ValueOf, fold-MessageOf, fold-PartsOf, fold_out-ValueOf, fold_out-HeldOf, fold_out-PartsOf, fold_out-MessageOf}
 use Rattle.reflect_message.specs.declared.parts.HeldOf.TheOpen.{HeldOf-F, ValueOf-F}
-use Rattle.reflect_message.proofs.Alike.{Open, entries_in, items_in, message_of}
+use Rattle.reflect_copies.proofs.Alike.{Open, entries_in, items_in, message_of}
 use Rattle.reflect_message.specs.declared.parts.HeldOf.TheViews.{out-ValueOf}
 use Rattle.protobuf_model.specs.Values.{Single, Content, single, message, list, dictionary, Message, absent, chain_of, entries_of}
 use Rattle.message_view.specs.Singles.{single_view}

@@ -5,9 +5,9 @@ use Rattle.reflect_wire.specs.Records.{Payload, SpellsRecords}
 use Rattle.reflect_wire.specs.Views.{records_of}
 use Rattle.reflect_pool.specs.declared.message.MessageDescriptor.{MessageDescriptor}
 use Rattle.reflect_message.specs.Contents.{Content}
-use Rattle.reflect_message.specs.Copies.{IsCopy}
+use Rattle.reflect_copies.specs.Copies.{IsCopy}
 use Rattle.reflect_message.specs.Oneofs.{AreChosen}
-use Rattle.reflect_message.proofs.Copying.{chosen_copied}
+use Rattle.reflect_copies.proofs.Copying.{chosen_copied}
 use Rattle.reflect_decode.specs.Accepts.{Accepts}
 use Rattle.reflect_decode.specs.Levels.{MergesAt}
 use Rattle.reflect_decode.specs.Merging.{IsBody}

@@ -22,7 +22,7 @@ use Rattle.reflect_scalar.specs.declared.map_key.MapKey.{MapKey}
 use Rattle.reflect_message.specs.Contents.{Content, content_of, nothing}
 use Rattle.reflect_message.specs.Declares.{Owns, OwnsExtension}
 use Rattle.reflect_message.specs.Held.{Same, fields_of, extensions_of}
-use Rattle.reflect_message.specs.InOrder.{held_order, parts_order, value_order, message_order, in_order, held_in_order, entries_in_order, items_in_order, map_in_order, IsInOrder}
+use Rattle.reflect_copies.specs.InOrder.{held_order, parts_order, value_order, message_order, in_order, held_in_order, entries_in_order, items_in_order, map_in_order, IsInOrder}
 use Rattle.reflect_message.specs.Known.{holds_floats, is_float}
 use Rattle.reflect_message.specs.Lists.{items_held}
 use Rattle.reflect_message.specs.Maps.{entries_held, key_order}
@@ -34,9 +34,9 @@ use Rattle.reflect_message.specs.declared.parts.HeldOf.{out-HeldOf}
 use Rattle.reflect_message.specs.declared.parts.HeldOf.TheFolds.{map-HeldOf, map-ValueOf, fold_out-HeldOf, fold_out-ValueOf}
 use Rattle.reflect_message.specs.declared.parts.HeldOf.TheOpen.{HeldOf-F, ValueOf-F}
 use Rattle.reflect_message.specs.declared.parts.HeldOf.TheViews.{out-ValueOf}
-use Rattle.reflect_message.proofs.Alike.{Open, extensions_in_block, fields_in_block}
+use Rattle.reflect_copies.proofs.Alike.{Open, extensions_in_block, fields_in_block}
 use Rattle.reflect_message.proofs.Choosing.{is_or_not}
-use Rattle.reflect_message.proofs.InOrder.{copy_put, entries_from, extensions_ascend, extensions_in_order, fields_ascend, fields_in_order, message_below, message_folded, order_of_list, order_of_map, order_of_message, parts_folded, parts_folded_in}
+use Rattle.reflect_copies.proofs.InOrder.{copy_put, entries_from, extensions_ascend, extensions_in_order, fields_ascend, fields_in_order, message_below, message_folded, order_of_list, order_of_map, order_of_message, parts_folded, parts_folded_in}
 use Rattle.reflect_message.proofs.Known.{kept}
 use Rattle.reflect_decode.specs.Keeps.{payloads}
 use Rattle.reflect_decode.specs.Levels.{TakenAt, TakesAt}

@@ -13,15 +13,15 @@ use Rattle.reflect_wire.specs.Records.{Payload}
 use Rattle.reflect_scalar.specs.FieldTypes.{field_pool, extension_pool, extension_type}
 use Rattle.reflect_scalar.specs.Floats.{IsFloat, HoldsFloats}
 use Rattle.reflect_message.specs.Contents.{Content, content_of, nothing}
-use Rattle.reflect_message.specs.Copies.{IsCopy}
+use Rattle.reflect_copies.specs.Copies.{IsCopy}
 use Rattle.reflect_message.specs.Declares.{Owns}
 use Rattle.reflect_message.specs.KindTypes.{IsScalarType, IsMessageType}
 use Rattle.reflect_message.specs.Messages.{message_in, IsStart}
 use Rattle.reflect_message.specs.Oneofs.{AreChosen}
-use Rattle.reflect_message.specs.Trees.{tree}
+use Rattle.reflect_copies.specs.Trees.{tree}
 use Rattle.reflect_message.specs.Names.{DynamicMessage, Value}
-use Rattle.reflect_message.proofs.Alike.{content_alike, list_alike, map_alike, message_alike}
-use Rattle.reflect_message.proofs.Copying.{chosen_copied}
+use Rattle.reflect_copies.proofs.Alike.{content_alike, list_alike, map_alike, message_alike}
+use Rattle.reflect_copies.proofs.Copying.{chosen_copied}
 use Rattle.reflect_decode.specs.Fields.{LeavesField}
 use Rattle.reflect_decode.specs.Levels.{TakenAt, TakesAt, MergesAt}
 use Rattle.reflect_decode.specs.Maps.{ChangesPart}

@@ -4,7 +4,7 @@ use Rattle.std.specs.Option.{IsSome}
 use Rattle.reflect_entries.specs.Entries.{IsAscending, value_at}
 use Rattle.reflect_wire.specs.Records.{Payload}
 use Rattle.reflect_message.specs.Contents.{Content}
-use Rattle.reflect_message.specs.InOrder.{in_order}
+use Rattle.reflect_copies.specs.InOrder.{in_order}
 use Rattle.reflect_message.specs.Names.{Value}
 
 -- the highest number that a field may have

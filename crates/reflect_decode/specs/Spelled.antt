@@ -8,7 +8,7 @@ use Rattle.reflect_wire.specs.Views.{records_of}
 use Rattle.reflect_decode.specs.Accepts.{Accepts}
 use Rattle.reflect_decode.specs.Fields.{HoldFields, HoldExtensions}
 use Rattle.reflect_message.specs.Contents.{Content, content_of}
-use Rattle.reflect_message.specs.Copies.{IsCopy}
+use Rattle.reflect_copies.specs.Copies.{IsCopy}
 use Rattle.reflect_message.specs.Declares.{NoField}
 use Rattle.reflect_message.specs.Held.{fields_of, extensions_of, unknown_of}
 use Rattle.reflect_decode.specs.Keeps.{KeepsUndeclared}

@@ -1,11 +1,12 @@
 ghost use Rattle.std.specs.Prelude.{◌≡◌, IfErr, IfOk, OnOk, OnErr};
 ghost use Rattle.reflect_message.specs.Contents.{content_of};
-ghost use Rattle.reflect_message.specs.InOrder.{IsInOrder};
+ghost use Rattle.reflect_copies.specs.InOrder.{IsInOrder};
 ghost use Rattle.reflect_message.specs.Oneofs.{IsExclusive};
 ghost use Rattle.reflect_decode.specs.Spelled.{IsSpelled, IsMerged, TellsWhy};
 ghost use Rattle.reflect_decode.specs.Suits.{Suits};
 
 use crate::decode::merge_body;
+use reflect_copies::CloneMessage;
 use reflect_message::{DynamicMessage, MessageParts};
 use reflect_pool::MessageDescriptor;
 use reflect_wire::{MAX_LEVELS, WireError};

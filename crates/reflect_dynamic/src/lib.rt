@@ -12,6 +12,7 @@ pub use reflect_access::{
     LendError, MessageTests, MessageWalks, NamedFields, NumberedFields, SetFieldError,
     TakeContents, TakenExtensions, TakenFields, TrySetField, UnknownFields, ValueTests,
 };
+pub use reflect_copies::{CloneMessage, CloneValue};
 pub use reflect_decode::DecodeMessage;
 pub use reflect_encode::EncodeMessage;
 pub use reflect_extend::ExtendMessage;

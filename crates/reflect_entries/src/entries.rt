@@ -254,6 +254,18 @@ impl<V> Entries<V> {
         }
     }
 
+    /// Puts the value where nothing stands under the number. A refusal leaves the entries.
+    pub fn fill(&mut self, number: u32, value: V) -> Result<(), AllocError>
+    where
+        V: Drop,
+        ensures updates { OnOk result (Updates self.old self.new number
+            (Some (unwrap_or (value_at self.old number) value))) }
+        ensures refused { OnErr result (self.new ≡ self.old) }
+    {
+        self.room(number, value)?;
+        Ok(())
+    }
+
     /// What stands under a number, to be changed; where nothing does, the default is put there. A
     /// refusal leaves the entries.
     pub fn slot(&mut self, number: u32, default: V) -> Result<&mut V, AllocError>

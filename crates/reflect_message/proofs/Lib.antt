@@ -1,13 +1,8 @@
-pub mod Alike
 pub mod Blocks
 pub mod Choosing
-pub mod Copying
 pub mod Defaulting
-pub mod Entries
-pub mod InOrder
 pub mod Known
 pub mod Lengthening
 pub mod Owning
 pub mod Setting
 pub mod Taking
-pub mod Trees

@@ -1,11 +1,9 @@
 pub mod Again
 pub mod Bytes
 pub mod Contents
-pub mod Copies
 pub mod Declares
 pub mod Defaults
 pub mod Held
-pub mod InOrder
 pub mod KindTypes
 pub mod Known
 pub mod Lent
@@ -19,4 +17,3 @@ pub mod Present
 pub mod Rows
 pub mod Shown
 pub mod Singles
-pub mod Trees

@@ -1,8 +1,6 @@
 -- Maps, entry by entry.
 use Rattle.std.specs.Prelude.{◌≡◌, List, [], Option, None, Some}
-use Rattle.std.specs.BTreeMap.{insert_entry}
 use Rattle.std.specs.declared.cmp.Ordering.{Ordering}
-use Rattle.reflect_scalar.specs.Keys.{key_view}
 use Rattle.reflect_scalar.specs.contracts.map_key.MapKeyOrd.TheImpl.{ghosts}
 use Rattle.reflect_scalar.specs.declared.map_key.MapKey.{MapKey}
 use Rattle.reflect_message.specs.Names.{Value}
@@ -34,8 +32,3 @@ entries_held (Some v) = map_entries v
 -- the order of keys
 abbrev pub key_order : MapKey → MapKey → Ordering
 key_order = ghosts.cmp
-
--- the value is put under a copy of the key
-abbrev pub PutsCopy : MapKey → Value → List (MapKey × Value) → List (MapKey × Value) → Type 0
-PutsCopy key v old new =
-    (copy : MapKey) × (key_view copy ≡ key_view key) × (new ≡ insert_entry key_order old copy v)

@@ -1,20 +1,17 @@
-ghost use Rattle.std.specs.Prelude.{◌≡◌, ◌↔◌, [], IfOk, IfSome, IfNone, IsTrue};
+ghost use Rattle.std.specs.Prelude.{◌≡◌, ◌↔◌, [], IfSome, IfNone, IsTrue};
 ghost use Rattle.std.specs.Option.{option_copied};
-ghost use Rattle.reflect_entries.specs.Entries.{IsAscending, value_at};
+ghost use Rattle.reflect_entries.specs.Entries.{value_at};
 ghost use Rattle.reflect_entries.specs.Undeclared.{undeclared};
 ghost use Rattle.reflect_message.specs.Contents.{content_of, nothing};
-ghost use Rattle.reflect_message.specs.Copies.{AreCopies};
 ghost use Rattle.reflect_message.specs.Declares.{IsHeldField, IsHeldExtension};
 ghost use Rattle.reflect_message.specs.Held.{fields_of, choices_of, extensions_of, unknown_of};
-ghost use Rattle.reflect_message.specs.InOrder.{IsInOrder};
 ghost use Rattle.reflect_message.specs.Oneofs.{IsExclusive};
-ghost use Rattle.reflect_message.specs.Trees.{held_tree};
 
 use crate::parts::{Held, HeldOf, Parts};
 use crate::value::Value;
 use reflect_pool::{ExtensionDescriptor, FieldDescriptor, MessageDescriptor};
 use reflect_scalar::holds_floats;
-use std::alloc::{AllocError, Global};
+use std::alloc::Global;
 use std::mem;
 
 /// A message of whose type a `D` tells.
@@ -46,6 +43,22 @@ impl<'p> DynamicMessage<'p> {
         }
     }
 
+    /// A message of the type that holds this.
+    pub fn with_held(
+        alloc: Global,
+        descriptor: MessageDescriptor<'p>,
+        held: Held<'p>,
+    ) -> DynamicMessage<'p>
+        ensures same_type { result.descriptor ≡ descriptor.entry }
+        ensures held { result.held ≡ held.entry }
+    {
+        DynamicMessage {
+            descriptor,
+            alloc,
+            held,
+        }
+    }
+
     /// The message's type.
     pub fn descriptor(&self) -> MessageDescriptor<'p>
         ensures { result ≡ self.now.descriptor }
@@ -59,27 +72,6 @@ impl<'p> DynamicMessage<'p> {
         ensures empty { content_of self.new ≡ nothing }
     {
         self.held = Held::Nothing;
-    }
-
-    /// A copy.
-    #[cycle(clone)]
-    pub fn clone(&self) -> Result<DynamicMessage<'p>, AllocError>
-        ensures same_type { IfOk result (λ m. m.descriptor ≡ self.now.descriptor) }
-        ensures fields { IfOk result (λ m. AreCopies (fields_of self.now) (fields_of m)) }
-        ensures choices { IfOk result (λ m. choices_of m ≡ choices_of self.now) }
-        ensures content { IfOk result (λ m. held_tree m.held ≡ held_tree self.now.held) }
-        ensures extensions { IfOk result
-            (λ m. AreCopies (extensions_of self.now) (extensions_of m)) }
-        ensures ascending { IfOk result (λ m. IsAscending (fields_of m)
-            × IsAscending (extensions_of m)) }
-        ensures in_order { IfOk result (λ m. IsInOrder m) }
-        ensures unknown { IfOk result (λ m. unknown_of m ≡ unknown_of self.now) }
-    {
-        Ok(DynamicMessage {
-            descriptor: self.descriptor,
-            alloc: self.alloc,
-            held: self.held.clone(self.alloc)?,
-        })
     }
 
     /// The field is one of the message's type, and one that messages hold: no floating-point

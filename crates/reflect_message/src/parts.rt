@@ -1,16 +1,12 @@
 //! What a message holds, apart from its type.
 
-ghost use Rattle.std.specs.Prelude.{◌≡◌, ℕ, [], Some, IfOk, IsTrue, OnOk, OnErr};
+ghost use Rattle.std.specs.Prelude.{◌≡◌, ℕ, [], Some, OnOk, OnErr};
 ghost use Rattle.std.specs.Option.{IsSome, unwrap_or};
 ghost use Rattle.reflect_entries.specs.Entries.{IsAscending, Updates, value_at};
 ghost use Rattle.reflect_entries.specs.Members.{first_member_of};
 ghost use Rattle.reflect_entries.specs.Undeclared.{undeclared};
-ghost use Rattle.reflect_message.specs.Copies.{AreCopies};
-ghost use Rattle.reflect_message.specs.Held.{fields_in, choices_in, extensions_in, unknown_in};
-ghost use Rattle.reflect_message.specs.InOrder.{held_in_order, parts_in_order, entries_in_order};
 ghost use Rattle.reflect_pool.specs.FieldsLeft.{field_type};
 ghost use Rattle.reflect_message.specs.Oneofs.{MakesRoom, Changes, Chooses, Unsets};
-ghost use Rattle.reflect_message.specs.Trees.{held_tree, parts_tree};
 
 use crate::value::{Value, ValueOf};
 use reflect_entries::{Choices, Entries, UnknownRecords};
@@ -28,27 +24,6 @@ pub enum HeldOf<D> {
 
 /// Where a message of a type of a pool keeps its parts.
 pub type Held<'p> = HeldOf<MessageDescriptor<'p>>;
-
-impl<'p> Held<'p> {
-    /// A copy.
-    #[cycle(clone)]
-    pub fn clone(&self, alloc: Global) -> Result<Held<'p>, AllocError>
-        ensures fields { IfOk result (λ copy. AreCopies (fields_in self.now) (fields_in copy)) }
-        ensures choices { IfOk result (λ copy. choices_in copy ≡ choices_in self.now) }
-        ensures content { IfOk result (λ copy. held_tree copy ≡ held_tree self.now) }
-        ensures extensions { IfOk result
-            (λ copy. AreCopies (extensions_in self.now) (extensions_in copy)) }
-        ensures ascending { IfOk result (λ copy. IsAscending (fields_in copy)
-            × IsAscending (extensions_in copy)) }
-        ensures in_order { IfOk result (λ copy. IsTrue (held_in_order copy)) }
-        ensures unknown { IfOk result (λ copy. unknown_in copy ≡ unknown_in self.now) }
-    {
-        match self {
-            Held::Nothing => Ok(Held::Nothing),
-            Held::Block(parts) => Ok(Held::Block(Box::new(alloc, Parts::clone(parts, alloc)?)?)),
-        }
-    }
-}
 
 /// What a message holds, of whose type a `D` tells.
 #[derive(Drop)]
@@ -83,27 +58,6 @@ impl<'p> Parts<'p> {
         }
     }
 
-    /// A copy.
-    #[cycle(clone)]
-    pub fn clone(&self, alloc: Global) -> Result<Parts<'p>, AllocError>
-        ensures fields { IfOk result (λ copy. AreCopies self.now.fields copy.fields) }
-        ensures choices { IfOk result (λ copy. copy.choices.members ≡ self.now.choices.members) }
-        ensures content { IfOk result (λ copy. parts_tree copy ≡ parts_tree self.now) }
-        ensures extensions { IfOk result (λ copy. AreCopies self.now.extensions copy.extensions) }
-        ensures ascending { IfOk result (λ copy. IsAscending copy.fields
-            × IsAscending copy.extensions) }
-        ensures in_order { IfOk result (λ copy. IsTrue (parts_in_order copy)) }
-        ensures unknown { IfOk result (λ copy. undeclared copy.unknown
-            ≡ undeclared self.now.unknown) }
-    {
-        Ok(Parts {
-            fields: entries_clone(alloc, &self.fields)?,
-            choices: self.choices.clone()?,
-            extensions: entries_clone(alloc, &self.extensions)?,
-            unknown: self.unknown.clone()?,
-        })
-    }
-
     /// Puts the default where the field holds nothing, and unsets the other members of its oneof. A
     /// refusal leaves what is held.
     pub fn fill_field(
@@ -126,7 +80,7 @@ impl<'p> Parts<'p> {
         ensures unknown { self.new.unknown ≡ self.old.unknown }
     {
         self.choices.make_room(field)?;
-        fill(&mut self.fields, field.number(), default)?;
+        self.fields.fill(field.number(), default)?;
         self.clear_siblings(field);
         Ok(())
     }
@@ -141,7 +95,7 @@ impl<'p> Parts<'p> {
         ensures choices { self.new.choices ≡ self.old.choices }
         ensures unknown { self.new.unknown ≡ self.old.unknown }
     {
-        fill(&mut self.extensions, number, default)
+        self.extensions.fill(number, default)
     }
 
     /// Sets the field over what it held, and unsets the other members of its oneof. A refusal
@@ -185,37 +139,4 @@ impl<'p> Parts<'p> {
             self.fields.take(sibling);
         }
     }
-}
-
-#[cycle(clone)]
-fn entries_clone<'p>(
-    alloc: Global,
-    entries: &Entries<Value<'p>>,
-) -> Result<Entries<Value<'p>>, AllocError>
-    ensures copies { IfOk result (λ copy. AreCopies entries.now copy) }
-    ensures ascending { IfOk result (λ copy. IsAscending copy) }
-    ensures in_order { IfOk result (λ copy. IsTrue (entries_in_order copy)) }
-{
-    let mut copy = Entries::new(alloc);
-    copy.reserve(entries.len())?;
-    'entries: for (number, value) in entries.numbers().iter().zip(entries.values()) {
-        // (of one number the first value counts, as for lookups: a borrow does not tell that
-        // numbers ascend)
-        fill(&mut copy, *number, value.clone()?)?;
-    }
-    Ok(copy)
-}
-
-/// Puts the value where nothing stands under the number. A refusal leaves the entries.
-fn fill<'p>(
-    entries: &mut Entries<Value<'p>>,
-    number: u32,
-    value: Value<'p>,
-) -> Result<(), AllocError>
-    ensures updates { OnOk result (Updates entries.old entries.new number
-        (Some (unwrap_or (value_at entries.old number) value.entry))) }
-    ensures err { OnErr result (entries.new ≡ entries.old) }
-{
-    entries.slot(number, value)?;
-    Ok(())
 }

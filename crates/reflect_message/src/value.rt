@@ -1,17 +1,12 @@
-ghost use Rattle.std.specs.Prelude.{◌≡◌, Some, IfOk, IfSome, IsTrue, OnOk, map};
+ghost use Rattle.std.specs.Prelude.{◌≡◌, Some, IfSome};
 ghost use Rattle.reflect_scalar.specs.Keys.{key_view};
-ghost use Rattle.reflect_message.specs.InOrder.{in_order, items_in_order, map_in_order};
 ghost use Rattle.reflect_message.specs.MapKeys.{key_of_value, value_of_key};
-ghost use Rattle.reflect_message.specs.Maps.{PutsCopy};
-ghost use Rattle.reflect_message.specs.Trees.{entry_tree, tree};
 ghost use Rattle.reflect_message.specs.Singles.{single};
 
 use crate::message::MessageOf;
 use reflect_pool::MessageDescriptor;
 use reflect_scalar::MapKey;
-use std::alloc::{AllocError, Global};
 use std::collections::BTreeMap;
-use std::default::Emptied;
 
 /// What a field of a message holds, where a `D` tells the message's type.
 ///
@@ -59,66 +54,6 @@ impl<'p> Value<'p> {
             _other => None,
         }
     }
-
-    /// A copy.
-    #[cycle(clone)]
-    pub fn clone(&self) -> Result<Value<'p>, AllocError>
-        ensures content { IfOk result (λ copy. tree copy ≡ tree self.now) }
-        ensures in_order { IfOk result (λ copy. IsTrue (in_order copy)) }
-    {
-        match self {
-            Value::Bool(truth) => Ok(Value::Bool(*truth)),
-            Value::I32(n) => Ok(Value::I32(*n)),
-            Value::I64(n) => Ok(Value::I64(*n)),
-            Value::U32(n) => Ok(Value::U32(*n)),
-            Value::U64(n) => Ok(Value::U64(*n)),
-            Value::String(text) => Ok(Value::String(text.clone()?)),
-            Value::Bytes(bytes) => Ok(Value::Bytes(bytes.clone()?)),
-            Value::EnumNumber(n) => Ok(Value::EnumNumber(*n)),
-            Value::Message(message) => Ok(Value::Message(message.clone()?)),
-            Value::List(values) => Ok(Value::List(list_clone(values)?)),
-            Value::Map(entries) => Ok(Value::Map(map_clone(entries)?)),
-        }
-    }
-}
-
-#[cycle(clone)]
-fn list_clone<'p>(values: &Vec<Value<'p>>) -> Result<Vec<Value<'p>>, AllocError>
-    ensures content { IfOk result (λ copy. map tree copy.items ≡ map tree values.now.items) }
-    ensures in_order { IfOk result (λ copy. IsTrue (items_in_order copy.items)) }
-{
-    let mut copy = Vec::with_capacity(*values.allocator(), values.len())?;
-    'values: for value in values {
-        copy.push(value.clone()?)?;
-    }
-    Ok(copy)
-}
-
-#[cycle(clone)]
-fn map_clone<'p>(
-    entries: &BTreeMap<MapKey, Value<'p>>,
-) -> Result<BTreeMap<MapKey, Value<'p>>, AllocError>
-    ensures content { IfOk result (λ copy. map entry_tree copy.entries
-        ≡ map entry_tree entries.now.entries) }
-    ensures in_order { IfOk result (λ copy. IsTrue (map_in_order copy.entries)) }
-{
-    let mut copy = BTreeMap::emptied(entries)?;
-    for (key, value) in entries.iter() {
-        insert_at(&mut copy, key, value.clone()?)?;
-    }
-    Ok(copy)
-}
-
-/// Puts the value under a copy of the key.
-fn insert_at<'p>(
-    entries: &mut BTreeMap<MapKey, Value<'p>>,
-    key: &MapKey,
-    value: Value<'p>,
-) -> Result<(), AllocError>
-    ensures { OnOk result (PutsCopy key.now value.entry entries.old.entries entries.new.entries) }
-{
-    entries.insert(key.clone()?, value)?;
-    Ok(())
 }
 
 impl<'p> From<MapKey> for Value<'p> {

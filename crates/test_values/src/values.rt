@@ -4,7 +4,7 @@ use crate::answers::{Answers, replay_calls};
 use crate::changes::change;
 use crate::given::{extension_of, field_of, kind_of, value_made, value_of};
 use crate::shown::{write_key, write_truth, write_value};
-use reflect_dynamic::{Value, ValueTests};
+use reflect_dynamic::{CloneValue, Value, ValueTests};
 use reflect_link::MessageDescriptor;
 use serde_json::Value as Json;
 use std::alloc::Global;

@@ -10,16 +10,16 @@ use Rattle.reflect_entries.specs.Entries.{value_at}
 use Rattle.reflect_scalar.specs.Singles.{Single}
 use Rattle.reflect_scalar.specs.declared.map_key.MapKey.{MapKey}
 use Rattle.reflect_message.specs.Contents.{Content, content_of}
-use Rattle.reflect_message.specs.Copies.{AreCopies, IsCopy}
+use Rattle.reflect_copies.specs.Copies.{AreCopies, IsCopy}
 use Rattle.reflect_message.specs.Held.{choices_of, fields_of}
-use Rattle.reflect_message.specs.InOrder.{IsInOrder, in_order}
+use Rattle.reflect_copies.specs.InOrder.{IsInOrder, in_order}
 use Rattle.reflect_message.specs.Known.{known_extension, known_field}
 use Rattle.reflect_message.specs.Names.{DynamicMessage, Value}
 use Rattle.reflect_message.specs.Oneofs.{AreChosen}
-use Rattle.reflect_message.specs.Trees.{ValueTree, entry_tree, tree}
-use Rattle.reflect_message.proofs.Alike.{content_alike, message_alike}
-use Rattle.reflect_message.proofs.Copying.{chosen_copied}
-use Rattle.reflect_message.proofs.InOrder.{entries_below, items_below, message_below}
+use Rattle.reflect_copies.specs.Trees.{ValueTree, entry_tree, tree}
+use Rattle.reflect_copies.proofs.Alike.{content_alike, message_alike}
+use Rattle.reflect_copies.proofs.Copying.{chosen_copied}
+use Rattle.reflect_copies.proofs.InOrder.{entries_below, items_below, message_below}
 use Rattle.reflect_decode.specs.Ordered.{AreInOrder, HoldsInOrder}
 use Rattle.reflect_decode.proofs.InOrder.{message_tells}
 use Rattle.reflect_numbered.specs.Fits.{is_one}

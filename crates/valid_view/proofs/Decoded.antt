@@ -8,7 +8,7 @@ use Rattle.reflect_message.specs.Contents.{content_of, nothing}
 use Rattle.reflect_message.specs.Held.{choices_of, fields_of}
 use Rattle.reflect_message.specs.Names.{DynamicMessage}
 use Rattle.reflect_message.specs.Oneofs.{AreChosen, IsExclusive}
-use Rattle.reflect_message.proofs.Copying.{chosen_copied}
+use Rattle.reflect_copies.proofs.Copying.{chosen_copied}
 use Rattle.reflect_decode.specs.Levels.{TakesAt}
 use Rattle.reflect_decode.specs.Spelled.{IsMerged, IsSpelled}
 use Rattle.reflect_numbered.specs.Fits.{suits_type}

@@ -13,7 +13,7 @@ use Rattle.reflect_message.specs.Singles as singles
 use Rattle.reflect_message.specs.declared.parts.HeldOf.TheFolds.{map-ValueOf, fold-HeldOf, fold-ValueOf, fold-MessageOf, fold-PartsOf, fold_out-ValueOf, fold_out-MessageOf}
 use Rattle.reflect_message.specs.declared.parts.HeldOf.TheOpen.{ValueOf-F}
 use Rattle.reflect_message.specs.declared.parts.HeldOf.TheViews.{out-ValueOf}
-use Rattle.reflect_message.proofs.Alike.{Open, entries_in, items_in, message_of}
+use Rattle.reflect_copies.proofs.Alike.{Open, entries_in, items_in, message_of}
 use Rattle.reflect_numbered.specs.Fits.{Fit, fit_of, held_step, list_fit, map_fit, message_fit, message_fits, message_step, parts_step, single_fit, value_step}
 use Rattle.reflect_numbered.specs.declared.validity.Strictness.{Strictness}
 use Rattle.message_view.proofs.Seen.{IsSeenAs, single_in}

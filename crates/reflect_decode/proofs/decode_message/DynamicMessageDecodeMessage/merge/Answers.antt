@@ -1,7 +1,7 @@
 use Rattle.std.proofs.Common.{refl, sym, subst}
 use Rattle.std.proofs.lemmas.Result.{err_from_is_err_and}
 use Rattle.reflect_message.specs.Contents.{content_of}
-use Rattle.reflect_message.specs.Copies.{IsCopy}
+use Rattle.reflect_copies.specs.Copies.{IsCopy}
 use Rattle.reflect_decode.specs.Levels.{TakesAt}
 use Rattle.reflect_decode.specs.Spelled.{TellsWhy}
 use Rattle.reflect_decode.specs.Suits.{Suits}

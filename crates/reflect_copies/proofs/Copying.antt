@@ -4,9 +4,9 @@ use Rattle.std.specs.Option.{option_or}
 use Rattle.std.proofs.lemmas.List.{length-map, get_or-map, take_more, take_all}
 use Rattle.reflect_pool.specs.declared.message.MessageDescriptor.{MessageDescriptor}
 use Rattle.reflect_entries.specs.Entries.{Updates, value_at}
-use Rattle.reflect_message.specs.Copies.{AreCopies}
+use Rattle.reflect_copies.specs.Copies.{AreCopies}
 use Rattle.reflect_message.specs.Oneofs.{AreChosen}
-use Rattle.reflect_message.specs.Trees.{tree}
+use Rattle.reflect_copies.specs.Trees.{tree}
 use Rattle.reflect_message.specs.Names.{Value}
 
 -- of entries one behind the other the first with a number counts

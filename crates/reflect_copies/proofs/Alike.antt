@@ -6,18 +6,18 @@ use Rattle.reflect_entries.specs.Undeclared.{undeclared}
 use Rattle.reflect_scalar.specs.Keys.{key_view}
 use Rattle.reflect_scalar.specs.declared.map_key.MapKey.{MapKey}
 use Rattle.reflect_message.specs.Contents.{content_of}
-use Rattle.reflect_message.specs.Copies.{IsCopy}
+use Rattle.reflect_copies.specs.Copies.{IsCopy}
 use Rattle.reflect_message.specs.Held.{fields_in, choices_in, extensions_in, unknown_in}
 use Rattle.reflect_message.specs.Lists.{list_items}
 use Rattle.reflect_message.specs.Maps.{map_entries}
 use Rattle.reflect_message.specs.Messages.{message_in}
-use Rattle.reflect_message.specs.Trees.{ValueTree, MessageTree, Place, branch, row, dictionary, parts, empty, full, place_of, dictionary_of, held_step, parts_step, value_step, message_step, tree, held_tree, places, entry_tree}
+use Rattle.reflect_copies.specs.Trees.{ValueTree, MessageTree, Place, branch, row, dictionary, parts, empty, full, place_of, dictionary_of, held_step, parts_step, value_step, message_step, tree, held_tree, places, entry_tree}
 use Rattle.reflect_message.specs.Names.{DynamicMessage, Held, Parts, Value}
 use Rattle.reflect_message.specs.declared.parts.HeldOf.{out-HeldOf}
 use Rattle.reflect_message.specs.declared.parts.HeldOf.TheFolds.{map-ValueOf, map-HeldOf, fold-MessageOf, fold-PartsOf, fold_out-ValueOf, fold_out-HeldOf, fold_out-MessageOf}
 use Rattle.reflect_message.specs.declared.parts.HeldOf.TheOpen.{HeldOf-F, ValueOf-F}
 use Rattle.reflect_message.specs.declared.parts.HeldOf.TheViews.{out-ValueOf}
-use Rattle.reflect_message.proofs.Trees.{parts_folded}
+use Rattle.reflect_copies.proofs.Trees.{parts_folded}
 
 -- a value, opened
 abbrev pub Open : Type 0

@@ -1,15 +1,15 @@
 use Rattle.std.proofs.Common.{◌≡◌, IsTrue, take, length, map}
 use Rattle.reflect_entries.specs.Entries.{IsAscending}
-use Rattle.reflect_message.specs.Copies.{AreCopies}
-use Rattle.reflect_message.specs.InOrder.{items_in_order, map_in_order}
-use Rattle.reflect_message.specs.Trees.{tree}
-use Rattle.reflect_message.proofs.Entries.{Copied}
-use Rattle.reflect_message.proofs.InOrder.{AllInOrder}
-use Rattle.reflect_message.proofs.+clone.Given as goal
+use Rattle.reflect_copies.specs.Copies.{AreCopies}
+use Rattle.reflect_copies.specs.InOrder.{items_in_order, map_in_order}
+use Rattle.reflect_copies.specs.Trees.{tree}
+use Rattle.reflect_copies.proofs.Entries.{Copied}
+use Rattle.reflect_copies.proofs.InOrder.{AllInOrder}
+use Rattle.reflect_copies.proofs.+clone.Given as goal
 
 -- the entries so far are copied, by ascending numbers, and the copies are in order
-abbrev pub invariant-parts::entries_clone-entries : goal.invariant-parts::entries_clone-entries
-invariant-parts::entries_clone-entries l = record {
+abbrev pub invariant-message::entries_clone-entries : goal.invariant-message::entries_clone-entries
+invariant-message::entries_clone-entries l = record {
   copies : AreCopies (take (length l.yielded) l.entries) l.copy;
   ascending : IsAscending l.copy;
   in_order : AllInOrder l.copy;

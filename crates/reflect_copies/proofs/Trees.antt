@@ -4,7 +4,7 @@ use Rattle.std.proofs.Math.Path.{fun_ext}
 use Rattle.reflect_entries.specs.Entries.{value_at}
 use Rattle.reflect_entries.specs.Pairs.{on_value}
 use Rattle.reflect_entries.specs.Undeclared.{undeclared}
-use Rattle.reflect_message.specs.Trees.{ValueTree, MessageTree, parts, place_of, held_step, parts_step, value_step, message_step, tree, held_tree, places, parts_tree}
+use Rattle.reflect_copies.specs.Trees.{ValueTree, MessageTree, parts, place_of, held_step, parts_step, value_step, message_step, tree, held_tree, places, parts_tree}
 use Rattle.reflect_message.specs.declared.parts.HeldOf.{Block}
 use Rattle.reflect_message.specs.declared.parts.HeldOf.TheFolds.{fold-PartsOf, fold-roll-HeldOf, fold_out-PartsOf}
 use Rattle.reflect_message.specs.declared.parts.HeldOf.TheOpen.{HeldOf-F}

@@ -12,8 +12,9 @@ use Rattle.std.specs.Ordering.{match_ordering, ordering_reverse}
 use Rattle.reflect_scalar.specs.Keys.{key_view}
 use Rattle.reflect_scalar.specs.declared.map_key.MapKey.{MapKey}
 use Rattle.reflect_scalar.specs.declared.map_key.MapKey.TheVariants as keys
-use Rattle.reflect_message.specs.Maps.{key_order, PutsCopy}
-use Rattle.reflect_message.specs.Trees.{entry_tree, tree}
+use Rattle.reflect_message.specs.Maps.{key_order}
+use Rattle.reflect_copies.specs.Maps.{PutsCopy}
+use Rattle.reflect_copies.specs.Trees.{entry_tree, tree}
 use Rattle.reflect_message.specs.Names.{Value}
 
 abbrev pub Entry : Type 0

@@ -2,7 +2,7 @@
 use Rattle.std.specs.Prelude.{◌≡◌, ℕ, List, option_map}
 use Rattle.reflect_entries.specs.Entries.{value_at}
 use Rattle.reflect_message.specs.Contents.{Content}
-use Rattle.reflect_message.specs.Trees.{tree}
+use Rattle.reflect_copies.specs.Trees.{tree}
 use Rattle.reflect_message.specs.Names.{Value}
 
 -- under each number stands a value with the same content, or nothing, as in the old ones

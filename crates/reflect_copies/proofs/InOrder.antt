@@ -16,16 +16,17 @@ use Rattle.reflect_entries.proofs.Places.{found}
 use Rattle.reflect_pool.specs.declared.message.MessageDescriptor.{MessageDescriptor}
 use Rattle.reflect_scalar.specs.declared.map_key.MapKey.{MapKey}
 use Rattle.reflect_message.specs.Held.{fields_in, extensions_in, fields_of, extensions_of}
-use Rattle.reflect_message.specs.InOrder.{ascends, entries_order, held_order, parts_order, value_order, message_order, in_order, held_in_order, entries_in_order, parts_in_order, items_in_order, map_in_order, IsInOrder}
+use Rattle.reflect_copies.specs.InOrder.{ascends, entries_order, held_order, parts_order, value_order, message_order, in_order, held_in_order, entries_in_order, parts_in_order, items_in_order, map_in_order, IsInOrder}
 use Rattle.reflect_message.specs.Lists.{list_items}
-use Rattle.reflect_message.specs.Maps.{key_order, map_entries, PutsCopy}
+use Rattle.reflect_message.specs.Maps.{key_order, map_entries}
+use Rattle.reflect_copies.specs.Maps.{PutsCopy}
 use Rattle.reflect_message.specs.Messages.{message_in}
 use Rattle.reflect_message.specs.Names.{DynamicMessage, Held, Parts, Value}
 use Rattle.reflect_message.specs.declared.parts.HeldOf.{Block, out-HeldOf}
 use Rattle.reflect_message.specs.declared.parts.HeldOf.TheFolds.{map-ValueOf, map-HeldOf, fold-MessageOf, fold-PartsOf, fold-roll-HeldOf, fold_out-ValueOf, fold_out-HeldOf, fold_out-MessageOf, fold_out-PartsOf}
 use Rattle.reflect_message.specs.declared.parts.HeldOf.TheOpen.{HeldOf-F, ValueOf-F}
 use Rattle.reflect_message.specs.declared.parts.HeldOf.TheViews.{out-ValueOf, roll-HeldOf}
-use Rattle.reflect_message.proofs.Alike.{Open, entries_in, extensions_in_block, fields_in_block, items_in, message_of}
+use Rattle.reflect_copies.proofs.Alike.{Open, entries_in, extensions_in_block, fields_in_block, items_in, message_of}
 use denote.Hole.Carrier.{roll}
 
 abbrev Sorted : Value → Type 0

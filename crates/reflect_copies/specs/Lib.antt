@@ -1,0 +1,4 @@
+pub mod Copies
+pub mod InOrder
+pub mod Maps
+pub mod Trees
