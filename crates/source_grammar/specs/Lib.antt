@@ -4,9 +4,11 @@ pub mod Enums
 pub mod Fields
 pub mod Files
 pub mod Languages
+pub mod Levels
 pub mod Messages
 pub mod Names
 pub mod Options
 pub mod Ranges
+pub mod Refusals
 pub mod SameTokens
 pub mod Services

@@ -4,3 +4,4 @@
 
 pub mod answers;
 pub mod laws;
+pub mod refusals;

@@ -1,0 +1,59 @@
+-- The text of what a rule takes is kept with no other fault than the rule's.
+use Rattle.std.proofs.Common.{[], ◌≡◌, ◌-◌, ◌++◌, length, take, Ok, Err, refl, ap, sym, ◌∙◌, arith, append_assoc}
+use Rattle.std.proofs.Math.Seq.{take-append_seam}
+use Rattle.std.proofs.lemmas.List.{length-append}
+use Rattle.protox_aggregates.specs.BraceTexts.{text_by, text_of, text_up_to}
+use Rattle.protox_tokens.specs.Parser.{Outcome, Parser}
+use Rattle.protox_tokens.specs.Refusal.{Fault}
+use Rattle.protox_tokens.specs.Stream.{Stream}
+use Rattle.source_grammar.proofs.Viable.{Goes, Took, Stops, Went, map_token, Viable}
+
+front_of : (xs r : Stream) → take (length (xs ++ r) - length r) (xs ++ r) ≡ xs
+front_of xs r =
+    let count : length (xs ++ r) - length r ≡ length xs = omega (arith, length-append xs r) in
+    rw count (take-append_seam xs r)
+
+text_of_front : (ts xs r : Stream) → ts ≡ xs ++ r → text_of (take (length ts - length r) ts) ≡ text_of xs
+text_of_front ts xs r e = rw e (ap text_of (front_of xs r))
+
+module _ {I : Type 0} (H : Stream → Type 0) (p : Parser (Unit {0})) (F : I → Stream → Type 0) where
+  abbrev After : {A : Type 0} → I → A → Stream → Type 0
+  After i a = F i
+
+  goes_text : (front : Stream) → Goes H p After front → Goes H (text_by p) After front
+  goes_text front c = record {
+    more = c.more;
+    kind = c.kind;
+    value = text_of (front ++ c.more);
+    reads = λ s g.
+        let x = c.reads s g in
+        (x.0, ap (text_up_to (front ++ (c.more ++ s))) x.1 ∙ ap (λ o. Ok (o, s)) (text_of_front (front ++ (c.more ++ s)) (front ++ c.more) s (sym (append_assoc front c.more s))));
+  }
+
+  took_text : (ts r : Stream) (u : Unit {0}) → Took H p After ts r u → Took H (text_by p) After ts r (text_of (take (length ts - length r) ts))
+  took_text ts r u c = record {
+    front = c.front;
+    whole = c.whole;
+    kind = c.kind;
+    told = c.told;
+    reads = λ s g.
+        let x = c.reads s g in
+        (x.0, ap (text_up_to (c.front ++ s)) x.1 ∙ ap (λ o. Ok (o, s)) (text_of_front (c.front ++ s) c.front s refl ∙ sym (text_of_front ts c.front r c.whole)));
+  }
+
+  stops_text : (ts : Stream) (f : Fault) → Stops H p After ts f → Stops H (text_by p) After ts f
+  stops_text ts f c = record {
+    front = c.front;
+    rest = c.rest;
+    whole = c.whole;
+    ahead = c.ahead;
+    dead = λ s h. let x = c.dead s h in (x.0, ap (text_up_to (c.front ++ s)) x.1);
+    alive = goes_text c.front c.alive;
+  }
+
+  went_text : (ts : Stream) (o : Outcome (Unit {0})) → Went H p After ts o → Went H (text_by p) After ts (text_up_to ts o)
+  went_text ts (Ok x) c = took_text ts x.1 x.0 c
+  went_text ts (Err f) c = map_token f {X = Stops H p After ts f} {Y = Stops H (text_by p) After ts f} (stops_text ts f) c
+
+pub viable_text : {I : Type 0} {H : Stream → Type 0} {p0 p : Parser (Unit {0})} (F : I → Stream → Type 0) → Viable H p0 p (λ i a. F i) → Viable H (text_by p0) (text_by p) (λ i a. F i)
+viable_text {H = H} {p0 = p0} {p = p} F rule = record { begin = goes_text H p F [] rule.begin; held = record { at = λ ts h. went_text H p F ts (p0 ts) (rule.held.at ts h) } }
