@@ -8,8 +8,9 @@ use Rattle.protox_tokens.specs.Parser.{Outcome, Parser}
 use Rattle.protox_tokens.specs.Refusal.{Expected, Fault, unexpected, eof, lexical, unknown_syntax, too_deep, misplaced, refusal}
 use Rattle.protox_tokens.specs.Stream.{Piece, piece, last, Mode, source, text, Stream, Seen, look, unless_misplaced}
 use Rattle.protox_tokens.proofs.Local.{SameHead}
-use Rattle.source_grammar.specs.Refusals.{Begins, Shows, IsFirst, HasNone, IsToldAt, TellsFirst}
-use Rattle.source_grammar.proofs.Viable.{Goes, Went, Viable}
+use Rattle.protox_tokens.proofs.Both.{Always}
+use Rattle.source_grammar.specs.Refusals.{Begins, BeginNothing, Shows, OpensBlock, IsPast, IsFirst, HasNone, IsToldAt, TellsFirst, TellsFirstInBlocks}
+use Rattle.source_grammar.proofs.Viable.{stand_behind, Goes, Doomed, Went, Viable}
 
 -- the token that a fault finds
 abbrev found_by : Fault → Seen
@@ -60,27 +61,40 @@ none_there source e (piece None (fault_at k a b) ∷ rest) h = h
 none_there text e (piece o (fault_at k a b) ∷ rest) h = h
 
 begun : {A I : Type 0} {H : Stream → Type 0} {p : Parser A} {F : I → A → Stream → Type 0} → ((i : I) (a : A) → F i a []) → (front : Stream) → Goes H p F front → Begins p front
-begun fits front c = (c.more ++ [], c.value, (c.reads [] (fits c.kind c.value)).1)
+begun fits front c = (c.more ++ [], stand_behind c.more [] c.stand tt, c.value, (c.reads [] (fits c.kind c.value)).1)
 
-module _ {A : Type 0} (p : Parser A) where
-  dead : (front : Stream) (here : Piece) (f : Fault) → ((s : Stream) → p (front ++ (here ∷ s)) ≡ Err f) → Begins p (front ++ here ∷ []) → ⊥
-  dead front here f refused b =
-      let wrong : ◌≡◌ {A = Outcome A} (Ok (b.1, [])) (Err f) = sym b.2 ∙ ap p (append_assoc front (here ∷ []) b.0) ∙ refused b.0 in
+module _ {A : Type 0} (p : Parser A) (Alive : Stream → Type 0) where
+  dead : (front : Stream) (here : Piece) (f : Fault) → ((s : Stream) → p (front ++ (here ∷ s)) ≡ Err f) → BeginNothing p (front ++ here ∷ [])
+  dead front here f refused more a read =
+      let wrong : ◌≡◌ {A = Outcome A} (Ok (a, [])) (Err f) = sym read ∙ ap p (append_assoc front (here ∷ []) more) ∙ refused more in
       absurd cc
 
   first : (ts front : Stream) (x : Expected) (t : Token) (at : Span) (rest : Stream) → ts ≡ front ++ rest → (m : Mode) (e : Expected) → refusal m e rest ≡ unexpected x t at
-      → ((s : Stream) → SameHead rest s → p (front ++ s) ≡ Err (unexpected x t at)) → Begins p front → IsFirst p ts t at
+      → ((s : Stream) → SameHead rest s → p (front ++ s) ≡ Err (unexpected x t at)) → Alive front → IsFirst Alive p ts t at
   first ts front x t at [] whole m e g refused c = let wrong : ◌≡◌ {A = Seen} None (Some (t, at)) = ap found_by g in absurd cc
   first ts front x t at (here ∷ rest) whole m e g refused c =
       (front, here, rest, whole, shows m here t at (found_is m e here rest ∙ ap found_by g), c, dead front here (unexpected x t at) (λ s. refused (here ∷ s) refl))
 
-  module _ {I : Type 0} (H : Stream → Type 0) (F : I → A → Stream → Type 0) (fits : (i : I) (a : A) → F i a []) where
-    told : (ts : Stream) (f : Fault) → Went H p F ts (Err f) → IsToldAt p ts f
-    told ts (unexpected x t at) c = first ts c.front x t at c.rest c.whole c.ahead.0 c.ahead.1 c.ahead.2 (λ s h. (c.dead s h).1) (begun fits c.front c.alive)
-    told ts (eof x) c = (c.front, c.rest, c.whole, none_there c.ahead.0 c.ahead.1 c.rest (subst IsEnd (sym c.ahead.2) tt), begun fits c.front c.alive)
+  module _ {I : Type 0} (W : Piece → Type 0) (H : Stream → Type 0) (F : I → A → Stream → Type 0) (fate : (front : Stream) → Goes H p F front ⊎ Doomed W H p F front → Alive front) where
+    told : (ts : Stream) (f : Fault) → Went W H p F ts (Err f) → IsToldAt Alive p ts f
+    told ts (unexpected x t at) c = first ts c.front x t at c.rest c.whole c.ahead.0 c.ahead.1 c.ahead.2 (λ s h. (c.dead s h).1) (fate c.front c.alive)
+    told ts (eof x) c = (c.front, c.rest, c.whole, none_there c.ahead.0 c.ahead.1 c.rest (subst IsEnd (sym c.ahead.2) tt), fate c.front c.alive)
     told ts (lexical e) c = tt
     told ts (unknown_syntax at) c = tt
     told ts (too_deep at) c = tt
 
-pub tells_first : {A I : Type 0} {H : Stream → Type 0} {p0 p : Parser A} {F : I → A → Stream → Type 0} → ((i : I) (a : A) → F i a []) → ((s : Stream) → H s) → Viable H p0 p F → TellsFirst p0 p
-tells_first {H = H} {p = p} {F = F} fits all rule ts f h = told p H F fits ts f (subst (Went H p F ts) h (rule.held.at ts (all ts)))
+-- where no token is already the first before the one that is told
+abbrev pub Nowhere : Piece → Type 0
+Nowhere p = ⊥
+
+pub tells_first : {A I : Type 0} {p : Parser A} {F : I → A → Stream → Type 0} → ((i : I) (a : A) → F i a []) → Viable Nowhere Always p F → TellsFirst p
+tells_first {p = p} {F = F} fits rule ts f h = told p (Begins p) Nowhere Always F fate ts f (subst (Went Nowhere Always p F ts) h (rule.held.at ts tt)) where
+  fate : (front : Stream) → Goes Always p F front ⊎ Doomed Nowhere Always p F front → Begins p front
+  fate front (inl c) = begun fits front c
+  fate front (inr c) = absurd c.is_word
+
+pub tells_in_blocks : {A I : Type 0} {p : Parser A} {F : I → A → Stream → Type 0} → ((i : I) (a : A) → F i a []) → Viable OpensBlock Always p F → TellsFirstInBlocks p
+tells_in_blocks {p = p} {F = F} fits rule ts f h = told p (λ front. Begins p front ⊎ IsPast p front) OpensBlock Always F fate ts f (subst (Went OpensBlock Always p F ts) h (rule.held.at ts tt)) where
+  fate : (front : Stream) → Goes Always p F front ⊎ Doomed OpensBlock Always p F front → Begins p front ⊎ IsPast p front
+  fate front (inl c) = inl (begun fits front c)
+  fate front (inr c) = inr (c.before, c.word, c.between, c.whole, c.is_word, begun fits c.before c.alive, λ more a read. (c.dead more).1 (a, []) (sym (ap p (append_assoc c.before (c.word ∷ []) more)) ∙ read))

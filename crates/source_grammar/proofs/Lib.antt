@@ -2,7 +2,6 @@ pub mod AggregateLaws
 pub mod Ahead
 pub mod Answered
 pub mod Choices
-pub mod Deepens
 pub mod EnumLaws
 pub mod FieldLaws
 pub mod FileLaws
@@ -25,14 +24,18 @@ pub mod Takes
 pub mod Viable
 pub mod ViableAggregates
 pub mod ViableDeclarations
+pub mod ViableDoomed
+pub mod ViableElements
 pub mod ViableFields
 pub mod ViableFiles
+pub mod ViableForms
 pub mod ViableLoops
 pub mod ViableMessages
 pub mod ViableNames
 pub mod ViableOptions
 pub mod ViableRanges
+pub mod ViableScalars
 pub mod ViableSteps
 pub mod ViableSyntax
 pub mod ViableTexts
-pub mod Within
+pub mod ViableTokens

@@ -7,13 +7,15 @@ use Rattle.protox_fields.specs.FieldGrammar.{named_type, ty_of, ty, map_type, ma
 use Rattle.protox_lex.specs.Token.{ident, sign}
 use Rattle.protox_lex.specs.declared.span.Span.{Span}
 use Rattle.protox_lex.specs.declared.token.Sign.TheVariants as signs
-use Rattle.protox_tokens.specs.Stream.{Stream, source, peek, span_of}
+use Rattle.protox_tokens.specs.Stream.{Piece, Stream, source, peek, span_of}
 use Rattle.protox_tokens.specs.Parser.{sees, here}
 use Rattle.protox_tokens.proofs.Both.{Always}
 use Rattle.protox_tree.specs.Nest.{normal, map_kind}
 use Rattle.protox_tree.specs.Scalar.{scalar_of}
 use Rattle.protox_tree.specs.Tree.{Word, scalar}
-use Rattle.source_grammar.proofs.Viable.{Viable, viable_then, viable_pure, Any, viable_end, viable_map, If, Else, viable_choose}
+use Rattle.source_grammar.proofs.ViableTokens.{extensions_written, map_written, sign_written}
+use Rattle.source_grammar.proofs.Viable.{Viable, viable_then, viable_pure, Any, viable_end, viable_map}
+use Rattle.source_grammar.proofs.ViableForms.{If, Else, viable_choose}
 use Rattle.source_grammar.proofs.ViableSteps.{Heads, made_at, made, viable_expect, viable_branch}
 use Rattle.source_grammar.proofs.ViableNames.{some_word, start, viable_word_as, viable_word, any_word, viable_int, NoPart, viable_parts_in, viable_parts, May, Unless, may_heads, may_start}
 use Rattle.source_grammar.proofs.ViableRanges.{goes_to, viable_ranges, ranges_heads, ranges_start}
@@ -24,25 +26,25 @@ use Rattle.source_grammar.proofs.ViableOptions.{Bare, bare_heads, bare_start, vi
 abbrev dots : Stream → Bool
 dots s = sees (sign signs.Dot) s
 
-viable_ty_of : (w : Word) (o : Option FieldType) → Viable Always (ty_of w o) (ty_of w o) (Unless dots)
+viable_ty_of : {W : Piece → Type 0} → (w : Word) (o : Option FieldType) → Viable W Always (ty_of w o) (Unless dots)
 viable_ty_of w (Some t) = viable_pure false (scalar t w.span) (λ s h. tt) (λ s h. tt)
 viable_ty_of w None = viable_map (named_type None) (λ i a. true) (λ i a s h. h) (λ i a s h. h) (viable_parts w)
 
 -- A type's name goes on behind a dot.
-viable_ty : (H : Stream → Type 0) → Heads H → (at : Span) → ((s : Stream) → H (made_at at some_word ∷ s)) → Viable H ty ty (Unless dots)
+viable_ty : {W : Piece → Type 0} (H : Stream → Type 0) → Heads H → (at : Span) → ((s : Stream) → H (made_at at some_word ∷ s)) → Viable W H ty (Unless dots)
 unfolding ty
-viable_ty H heads at starts = viable_branch source (sign signs.Dot) H heads _ _
+viable_ty H heads at starts = viable_branch _ source (sign signs.Dot) H heads _
     (λ p. viable_then any_word (λ i w. viable_map (named_type (Some p)) (λ i a. true) (λ i a s h. h) (λ i a s h. h) (viable_parts w)))
     (viable_then (viable_word (Else H (sees (sign signs.Dot))) (λ x t u h. (heads x t u h.0, h.1)) at (λ s. (starts s, refl))) (λ i w. viable_ty_of w (scalar_of w.text)))
 
 dots_heads : (i : Bool) → Heads (May dots i)
 dots_heads i = may_heads dots (λ x t u. refl) i
 
-viable_map_type : (first : Span) → Viable Always (map_type first) (map_type first) Any
+viable_map_type : {W : Piece → Type 0} → (first : Span) → Viable W Always (map_type first) Any
 unfolding map_type
 viable_map_type first =
-    viable_then (viable_ty Always (λ x t u h. h) start (λ s. tt)) (λ i k. viable_then (viable_expect (sign signs.Comma) (May dots i) (dots_heads i) refl (may_start dots (made (sign signs.Comma)) (λ s. refl) i)) (λ j q.
-    viable_then (viable_ty Always (λ x t u h. h) start (λ s. tt)) (λ k v. viable_then (viable_expect (sign signs.RightAngleBracket) (May dots k) (dots_heads k) refl (may_start dots (made (sign signs.RightAngleBracket)) (λ s. refl) k)) (λ l q. viable_end _))))
+    viable_then (viable_ty Always (λ x t u h. h) start (λ s. tt)) (λ i k. viable_then (viable_expect (sign signs.Comma) (sign_written signs.Comma) (May dots i) (dots_heads i) refl (may_start dots (made (sign signs.Comma)) (λ s. refl) i)) (λ j q.
+    viable_then (viable_ty Always (λ x t u h. h) start (λ s. tt)) (λ k v. viable_then (viable_expect (sign signs.RightAngleBracket) (sign_written signs.RightAngleBracket) (May dots k) (dots_heads k) refl (may_start dots (made (sign signs.RightAngleBracket)) (λ s. refl) k)) (λ l q. viable_end _))))
 
 -- where a name `map` goes on no more
 abbrev NoMap : Stream → Type 0
@@ -88,14 +90,14 @@ untyped true s h = h.1
 untyped false s h = tt
 
 module _ (H : Stream → Type 0) (heads : Heads H) (at : Span) where
-  viable_map_or_name : ((s : Stream) → H (made_at at (ident (codes "map")) ∷ s)) → Viable H map_or_name map_or_name Kinded
+  viable_map_or_name : {W : Piece → Type 0} → ((s : Stream) → H (made_at at (ident (codes "map")) ∷ s)) → Viable W H map_or_name Kinded
   unfolding map_or_name
-  viable_map_or_name starts = viable_then (viable_word_as H heads (codes "map") at starts) (λ i w. viable_branch source (sign signs.LeftAngleBracket) Always (λ x t u h. h) (map_by w) (map_by w)
+  viable_map_or_name starts = viable_then (viable_word_as H heads (codes "map") map_written at starts) (λ i w. viable_branch _ source (sign signs.LeftAngleBracket) Always (λ x t u h. h) (map_by w)
       (λ p. viable_map map_kind (λ i a. None) (λ i a s h. tt) (λ i a s h. tt) (viable_map_type w.span))
       (viable_map (λ parts. normal (named_type None parts)) (λ i a. Some i) mapped unmapped (viable_parts_in NoMap (λ x t u h. h) w)))
 
 module _ (H : Stream → Type 0) (heads : Heads H) (at : Span) where
-  viable_field_type : ((s : Stream) → H (made_at at (ident (codes "map")) ∷ s)) → ((s : Stream) → H (made_at at some_word ∷ s)) → Viable H field_type field_type Kinded
+  viable_field_type : {W : Piece → Type 0} → ((s : Stream) → H (made_at at (ident (codes "map")) ∷ s)) → ((s : Stream) → H (made_at at some_word ∷ s)) → Viable W H field_type Kinded
   unfolding field_type
   viable_field_type map_starts starts = viable_choose (sees (ident (codes "map")))
       (viable_map_or_name (If H (sees (ident (codes "map")))) (λ x t u h. (heads x t u h.0, h.1)) at (λ s. (map_starts s, refl))).held
@@ -106,12 +108,12 @@ module _ (H : Stream → Type 0) (heads : Heads H) (at : Span) where
 abbrev Behind : Bool → Stream → Type 0
 Behind i s = May goes_to i s × (sees (sign signs.Comma) s ≡ false)
 
-pub viable_extensions : (H : Stream → Type 0) → Heads H → ((s : Stream) → H (made (ident (codes "extensions")) ∷ s)) → Viable H extensions extensions Any
+pub viable_extensions : {W : Piece → Type 0} (H : Stream → Type 0) → Heads H → ((s : Stream) → H (made (ident (codes "extensions")) ∷ s)) → Viable W H extensions Any
 unfolding extensions
 viable_extensions H heads starts =
-    viable_then (viable_expect (ident (codes "extensions")) H heads refl starts) (λ i p. viable_then (viable_ranges Always (λ x t u h. h) (λ s. tt)) (λ j rs.
+    viable_then (viable_expect (ident (codes "extensions")) extensions_written H heads refl starts) (λ i p. viable_then (viable_ranges Always (λ x t u h. h) (λ s. tt)) (λ j rs.
     viable_then (viable_options (Behind j.0) (ranges_heads j.0)) (λ k os.
-    viable_then (viable_expect (sign signs.Semicolon) (Bare (Behind j.0) k) (bare_heads (Behind j.0) (ranges_heads j.0) k) refl
+    viable_then (viable_expect (sign signs.Semicolon) (sign_written signs.Semicolon) (Bare (Behind j.0) k) (bare_heads (Behind j.0) (ranges_heads j.0) k) refl
     (bare_start (Behind j.0) (made (sign signs.Semicolon)) (ranges_start (made (sign signs.Semicolon)) (λ s. refl) (λ s. refl) j.0) (λ s. refl) k)) (λ l q. viable_end _))))
 
 -- ---- labels
@@ -128,12 +130,12 @@ pub label_heads : (H : Stream → Type 0) → Heads H → (i : Bool) → Heads (
 label_heads H heads true = λ x t u h. (((heads x t u h.0.0.0, h.0.0.1), h.0.1), h.1)
 label_heads H heads false = λ x t u h. tt
 
-pub viable_label : (H : Stream → Type 0) → Heads H → Viable H label label (Labels H)
+pub viable_label : {W : Piece → Type 0} (H : Stream → Type 0) → Heads H → Viable W H label (Labels H)
 unfolding label
 viable_label H heads =
-    viable_branch source (ident (codes "optional")) H heads optional_if optional_if (λ at. viable_pure false _ (λ s h. tt) (λ s h. tt))
-    (viable_branch source (ident (codes "required")) (Else H (sees (ident (codes "optional")))) (λ x t u h. (heads x t u h.0, h.1)) required_if required_if (λ at. viable_pure false _ (λ s h. tt) (λ s h. tt))
-    (viable_branch source (ident (codes "repeated")) (Else (Else H (sees (ident (codes "optional")))) (sees (ident (codes "required")))) (λ x t u h. ((heads x t u h.0.0, h.0.1), h.1)) repeated_if repeated_if (λ at. viable_pure false _ (λ s h. tt) (λ s h. tt))
+    viable_branch _ source (ident (codes "optional")) H heads optional_if (λ at. viable_pure false _ (λ s h. tt) (λ s h. tt))
+    (viable_branch _ source (ident (codes "required")) (Else H (sees (ident (codes "optional")))) (λ x t u h. (heads x t u h.0, h.1)) required_if (λ at. viable_pure false _ (λ s h. tt) (λ s h. tt))
+    (viable_branch _ source (ident (codes "repeated")) (Else (Else H (sees (ident (codes "optional")))) (sees (ident (codes "required")))) (λ x t u h. ((heads x t u h.0.0, h.0.1), h.1)) repeated_if (λ at. viable_pure false _ (λ s h. tt) (λ s h. tt))
     (viable_pure true None (λ s h. h) (λ s h. h))))
 
 -- ---- fields
@@ -145,17 +147,17 @@ From H at s = H s × (span_of (peek source s) ≡ at)
 abbrev pub Placed : (Stream → Type 0) → Unit {0} → Span → Stream → Type 0
 Placed H i at = From H at
 
-pub viable_here : (H : Stream → Type 0) → Viable H here here (Placed H)
+pub viable_here : {W : Piece → Type 0} (H : Stream → Type 0) → Viable W H here (Placed H)
 viable_here H = record {
-  begin = record { more = []; kind = tt; value = start; reads = λ s g. (g.0, ap (λ at. Ok (at, s)) g.1) };
+  begin = record { more = []; stand = tt; kind = tt; value = start; reads = λ s g. (g.0, ap (λ at. Ok (at, s)) g.1) };
   held = record { at = λ ts h. record { front = []; whole = refl; kind = tt; told = (h, refl); reads = λ s g. (g.0, ap (λ at. Ok (at, s)) g.1) } };
 }
 
 -- A field behind its label; the word that is put there where its type is missing stands at this place.
-pub viable_plain_field : (H : Stream → Type 0) → Heads H → (at : Span) → ((s : Stream) → H (made_at at (ident (codes "map")) ∷ s)) → ((s : Stream) → H (made_at at some_word ∷ s)) → (first : Span) (l : Labelled) → Viable H (plain_field first l) (plain_field first l) Any
+pub viable_plain_field : {W : Piece → Type 0} (H : Stream → Type 0) → Heads H → (at : Span) → ((s : Stream) → H (made_at at (ident (codes "map")) ∷ s)) → ((s : Stream) → H (made_at at some_word ∷ s)) → (first : Span) (l : Labelled) → Viable W H (plain_field first l) Any
 unfolding plain_field
 viable_plain_field H heads at map_starts starts first l =
     viable_then (viable_field_type H heads at map_starts starts) (λ i k. viable_then (viable_word (Kinds i) (kinds_heads i) start (kinds_start i)) (λ j name.
-    viable_then (viable_expect (sign signs.Equals) Always (λ x t u h. h) refl (λ s. tt)) (λ k e. viable_then (viable_int Always (λ x t u h. h) (λ s. tt)) (λ l n.
-    viable_then (viable_options Always (λ x t u h. h)) (λ m os. viable_then (viable_expect (sign signs.Semicolon) (Bare Always m) (bare_heads Always (λ x t u h. h) m) refl
+    viable_then (viable_expect (sign signs.Equals) (sign_written signs.Equals) Always (λ x t u h. h) refl (λ s. tt)) (λ k e. viable_then (viable_int Always (λ x t u h. h) (λ s. tt)) (λ l n.
+    viable_then (viable_options Always (λ x t u h. h)) (λ m os. viable_then (viable_expect (sign signs.Semicolon) (sign_written signs.Semicolon) (Bare Always m) (bare_heads Always (λ x t u h. h) m) refl
     (bare_start Always (made (sign signs.Semicolon)) (λ s. tt) (λ s. refl) m)) (λ n q. viable_end _))))))

@@ -14,7 +14,9 @@ use Rattle.protox_tokens.specs.Refusal.{an_option_value, a_number, lex_fault}
 use Rattle.protox_tokens.specs.Span.{across}
 use Rattle.protox_tokens.proofs.Both.{Always}
 use Rattle.protox_tree.specs.Tree.{plain, Value, word_value, minus_word, int_value, float_value, strings_value, braces_value}
-use Rattle.source_grammar.proofs.Viable.{Went, Viable, viable_then, viable_pure, Any, viable_end, viable_map, viable_made, viable_kind, viable_choose}
+use Rattle.source_grammar.proofs.ViableTokens.{int_written, option_written, sign_written}
+use Rattle.source_grammar.proofs.Viable.{Went, Viable, viable_then, viable_pure, Any, viable_end, viable_map, viable_made}
+use Rattle.source_grammar.proofs.ViableForms.{viable_kind, viable_choose}
 use Rattle.source_grammar.proofs.ViableSteps.{Heads, made, viable_one, viable_checked, viable_expect, viable_branch}
 use Rattle.source_grammar.proofs.ViableLoops.{Listed, viable_some_by}
 use Rattle.source_grammar.proofs.ViableNames.{some_int, start, viable_word, viable_type_name, viable_strings, May, Unless, may_heads, may_start}
@@ -22,19 +24,19 @@ use Rattle.source_grammar.proofs.ViableAggregates.{viable_aggregate}
 
 -- ---- names
 
-viable_in_parens : (p : Span) → Viable Always (in_parens p) (in_parens p) Any
+viable_in_parens : {W : Piece → Type 0} → (p : Span) → Viable W Always (in_parens p) Any
 unfolding in_parens
 viable_in_parens p = viable_then (viable_type_name Always (λ x t u h. h) (λ s. tt)) (λ i n.
-    viable_then (viable_expect (sign signs.RightParen) (λ s. sees (sign signs.Dot) s ≡ false) (λ x t u h. h) refl (λ s. refl)) (λ j q. viable_end _))
+    viable_then (viable_expect (sign signs.RightParen) (sign_written signs.RightParen) (λ s. sees (sign signs.Dot) s ≡ false) (λ x t u h. h) refl (λ s. refl)) (λ j q. viable_end _))
 
-viable_name_part : Viable Always name_part name_part Any
+viable_name_part : {W : Piece → Type 0} → Viable W Always name_part Any
 unfolding name_part
-viable_name_part = viable_branch source (sign signs.LeftParen) Always (λ x t u h. h) part_after part_after
+viable_name_part = viable_branch _ source (sign signs.LeftParen) Always (λ x t u h. h) part_after
     (λ p. viable_made _ (viable_in_parens p)) (viable_made plain (viable_word (λ s. Unit {0} × (sees (sign signs.LeftParen) s ≡ false)) (λ x t u h. h) start (λ s. (tt, refl))))
 
-viable_name : Viable Always name name (Listed (sign signs.Dot) Any)
+viable_name : {W : Piece → Type 0} → Viable W Always name (Listed (sign signs.Dot) Any)
 unfolding name
-viable_name = viable_some_by (sign signs.Dot) (λ j a x t u h. h) name_turns name_turns viable_name_part viable_name_part
+viable_name = viable_some_by (sign signs.Dot) (λ j a x t u h. h) name_turns viable_name_part viable_name_part
 
 -- ---- values
 
@@ -46,65 +48,65 @@ abbrev in_range_if : Int → Bool → Parser Value
 in_range_if n small = if small then pure (int_value n) else (λ ts. Err (lex_fault kinds.IntegerOutOfRange n.span))
 
 -- A value behind a minus is refused only for what it is, and the one that is put there is small.
-ranged_by : (n : Int) (small : Bool) (r : Stream) → Went Always (in_range_if n small) (Unless is_string) r (in_range_if n small r)
-ranged_by n true r = (viable_pure {H = Always} {G = Unless is_string} false (int_value n) (λ s h. tt) (λ s h. tt)).held.at r tt
-ranged_by n false r = tt
+ranged_by : (W : Piece → Type 0) (n : Int) (small : Bool) (r : Stream) → Went W Always (in_range_if n small) (Unless is_string) r (in_range_if n small r)
+ranged_by W n true r = (viable_pure {W = W} {H = Always} {G = Unless is_string} false (int_value n) (λ s h. tt) (λ s h. tt)).held.at r tt
+ranged_by W n false r = tt
 
-ranged : (v : Value) (r : Stream) → Went Always (in_range v) (Unless is_string) r (in_range v r)
-ranged (int_value n) r = ranged_by n (nat_le n.value (2 ^ 63)) r
-ranged (word_value w) r = (viable_pure {H = Always} {G = Unless is_string} false (word_value w) (λ s h. tt) (λ s h. tt)).held.at r tt
-ranged (minus_word w) r = (viable_pure {H = Always} {G = Unless is_string} false (minus_word w) (λ s h. tt) (λ s h. tt)).held.at r tt
-ranged (float_value n w) r = (viable_pure {H = Always} {G = Unless is_string} false (float_value n w) (λ s h. tt) (λ s h. tt)).held.at r tt
-ranged (strings_value w) r = (viable_pure {H = Always} {G = Unless is_string} false (strings_value w) (λ s h. tt) (λ s h. tt)).held.at r tt
-ranged (braces_value w at) r = (viable_pure {H = Always} {G = Unless is_string} false (braces_value w at) (λ s h. tt) (λ s h. tt)).held.at r tt
+ranged : (W : Piece → Type 0) (v : Value) (r : Stream) → Went W Always (in_range v) (Unless is_string) r (in_range v r)
+ranged W (int_value n) r = ranged_by W n (nat_le n.value (2 ^ 63)) r
+ranged W (word_value w) r = (viable_pure {W = W} {H = Always} {G = Unless is_string} false (word_value w) (λ s h. tt) (λ s h. tt)).held.at r tt
+ranged W (minus_word w) r = (viable_pure {W = W} {H = Always} {G = Unless is_string} false (minus_word w) (λ s h. tt) (λ s h. tt)).held.at r tt
+ranged W (float_value n w) r = (viable_pure {W = W} {H = Always} {G = Unless is_string} false (float_value n w) (λ s h. tt) (λ s h. tt)).held.at r tt
+ranged W (strings_value w) r = (viable_pure {W = W} {H = Always} {G = Unless is_string} false (strings_value w) (λ s h. tt) (λ s h. tt)).held.at r tt
+ranged W (braces_value w at) r = (viable_pure {W = W} {H = Always} {G = Unless is_string} false (braces_value w at) (λ s h. tt) (λ s h. tt)).held.at r tt
 
-viable_negative : (minus : Span) → Viable Always (negative minus) (negative minus) (Unless is_string)
+viable_negative : {W : Piece → Type 0} → (minus : Span) → Viable W Always (negative minus) (Unless is_string)
 unfolding negative
-viable_negative minus = viable_checked source a_number (λ t at. negative_of t (across minus at)) Always (λ x t u h. h) (made some_int) (int_value (minus_one minus)) refl (λ s. tt) in_range in_range (Unless is_string)
-    (record { more = []; kind = false; value = int_value (minus_one minus); reads = λ s g. (tt, refl) }) ranged
+viable_negative minus = viable_checked _ source a_number (λ t at. negative_of t (across minus at)) Always (λ x t u h. h) (made some_int) (int_value (minus_one minus)) refl int_written (λ s. tt) in_range (Unless is_string)
+    (record { more = []; stand = tt; kind = false; value = int_value (minus_one minus); reads = λ s g. (tt, refl) }) (ranged _)
 
-viable_plain_value : (H : Stream → Type 0) → Heads H → ((s : Stream) → H (made some_int ∷ s)) → Viable H plain_value plain_value (Unless is_string)
+viable_plain_value : {W : Piece → Type 0} (H : Stream → Type 0) → Heads H → ((s : Stream) → H (made some_int ∷ s)) → Viable W H plain_value (Unless is_string)
 unfolding plain_value
 viable_plain_value H heads starts = viable_kind (λ i a. false) (λ i a s h. tt) (λ i a s h. tt)
-    (viable_one source an_option_value plain_of H heads (made some_int) (int_value (record { negative = false; value = 1; span = start })) refl starts)
+    (viable_one _ source an_option_value plain_of H heads (made some_int) (int_value (record { negative = false; value = 1; span = start })) refl int_written starts)
 
 abbrev Unsigned : Stream → Type 0
 Unsigned s = (Unit {0} × (is_string s ≡ false)) × (sees (sign signs.Minus) s ≡ false)
 
-viable_value : Viable Always value value (Unless is_string)
+viable_value : {W : Piece → Type 0} → Viable W Always value (Unless is_string)
 unfolding value
 viable_value = viable_choose is_string
     (viable_map strings_value (λ i a. true) (λ i a s h. h) (λ i a s h. h) (viable_strings (λ s. Unit {0} × (is_string s ≡ true)) (λ x t u h. h) (λ s. (tt, refl)))).held
-    (viable_branch source (sign signs.Minus) (λ s. Unit {0} × (is_string s ≡ false)) (λ x t u h. h) signed_or_plain signed_or_plain viable_negative
+    (viable_branch _ source (sign signs.Minus) (λ s. Unit {0} × (is_string s ≡ false)) (λ x t u h. h) signed_or_plain viable_negative
     (viable_choose (sees (sign signs.LeftBrace))
     (viable_map _ (λ i a. false) (λ i a s h. tt) (λ i a s h. tt) (viable_aggregate (λ s. Unsigned s × (sees (sign signs.LeftBrace) s ≡ true)) (λ x t u h. h) (λ s. (((tt, refl), refl), refl)))).held
     (viable_plain_value (λ s. Unsigned s × (sees (sign signs.LeftBrace) s ≡ false)) (λ x t u h. h) (λ s. (((tt, refl), refl), refl)))))
 
 -- ---- options
 
-viable_body : Viable Always body body (Unless is_string)
+viable_body : {W : Piece → Type 0} → Viable W Always body (Unless is_string)
 unfolding body
 viable_body = viable_then viable_name (λ i n.
-    viable_then (viable_expect (sign signs.Equals) (λ s. Unit {0} × (sees (sign signs.Dot) s ≡ false)) (λ x t u h. h) refl (λ s. (tt, refl))) (λ j q.
+    viable_then (viable_expect (sign signs.Equals) (sign_written signs.Equals) (λ s. Unit {0} × (sees (sign signs.Dot) s ≡ false)) (λ x t u h. h) refl (λ s. (tt, refl))) (λ j q.
     viable_then viable_value (λ k v. viable_pure k _ (λ s h. h) (λ s h. h))))
 
-pub viable_option : (H : Stream → Type 0) → Heads H → ((s : Stream) → H (made (ident (codes "option")) ∷ s)) → Viable H option option Any
+pub viable_option : {W : Piece → Type 0} (H : Stream → Type 0) → Heads H → ((s : Stream) → H (made (ident (codes "option")) ∷ s)) → Viable W H option Any
 unfolding option
-viable_option H heads starts = viable_then (viable_expect (ident (codes "option")) H heads refl starts) (λ i p. viable_then viable_body (λ j b.
-    viable_then (viable_expect (sign signs.Semicolon) (May is_string j) (may_heads is_string (λ x t u. refl) j) refl (may_start is_string (made (sign signs.Semicolon)) (λ s. refl) j)) (λ k q. viable_end _)))
+viable_option H heads starts = viable_then (viable_expect (ident (codes "option")) option_written H heads refl starts) (λ i p. viable_then viable_body (λ j b.
+    viable_then (viable_expect (sign signs.Semicolon) (sign_written signs.Semicolon) (May is_string j) (may_heads is_string (λ x t u. refl) j) refl (may_start is_string (made (sign signs.Semicolon)) (λ s. refl) j)) (λ k q. viable_end _)))
 
-viable_bodies : Viable Always bodies bodies (Listed (sign signs.Comma) (Unless is_string))
+viable_bodies : {W : Piece → Type 0} → Viable W Always bodies (Listed (sign signs.Comma) (Unless is_string))
 unfolding bodies
-viable_bodies = viable_some_by (sign signs.Comma) (λ j a. may_heads is_string (λ x t u. refl) j) body_turns body_turns viable_body viable_body
+viable_bodies = viable_some_by (sign signs.Comma) (λ j a. may_heads is_string (λ x t u. refl) j) body_turns viable_body viable_body
 
 listed_heads : (i : Bool) → Heads (λ s. May is_string i s × (sees (sign signs.Comma) s ≡ false))
 listed_heads true = λ x t u h. h
 listed_heads false = λ x t u h. h
 
-viable_in_brackets : (p : Span) → Viable Always (in_brackets p) (in_brackets p) Any
+viable_in_brackets : {W : Piece → Type 0} → (p : Span) → Viable W Always (in_brackets p) Any
 unfolding in_brackets
 viable_in_brackets p = viable_then viable_bodies (λ i bs.
-    viable_then (viable_expect (sign signs.RightBracket) (λ s. May is_string i.0 s × (sees (sign signs.Comma) s ≡ false)) (listed_heads i.0) refl (λ s. (may_start is_string (made (sign signs.RightBracket)) (λ s. refl) i.0 s, refl))) (λ j q. viable_end _))
+    viable_then (viable_expect (sign signs.RightBracket) (sign_written signs.RightBracket) (λ s. May is_string i.0 s × (sees (sign signs.Comma) s ≡ false)) (listed_heads i.0) refl (λ s. (may_start is_string (made (sign signs.RightBracket)) (λ s. refl) i.0 s, refl))) (λ j q. viable_end _))
 
 -- Where no options stand, no bracket follows.
 abbrev pub Bare : (Stream → Type 0) → Bool → Stream → Type 0
@@ -122,7 +124,7 @@ pub bare_start : (H : Stream → Type 0) (k : Piece) → ((s : Stream) → H (k 
 bare_start H k starts none true s = (starts s, none s)
 bare_start H k starts none false s = tt
 
-pub viable_options : (H : Stream → Type 0) → Heads H → Viable H options options (Optional H)
+pub viable_options : {W : Piece → Type 0} (H : Stream → Type 0) → Heads H → Viable W H options (Optional H)
 unfolding options
-viable_options H heads = viable_branch source (sign signs.LeftBracket) H heads options_after options_after
+viable_options H heads = viable_branch _ source (sign signs.LeftBracket) H heads options_after
     (λ p. viable_map Some (λ i a. false) (λ i a s h. tt) (λ i a s h. tt) (viable_in_brackets p)) (viable_pure true None (λ s h. h) (λ s h. h))

@@ -12,14 +12,16 @@ use Rattle.protox_options.proofs.NameLaws.{strings_turns}
 use Rattle.protox_tokens.specs.Parser.{Outcome, Parser, and_then, ◌>>=◌, ◌<$>◌, pure, is_string, is_string_of, expect, one, taken, value_of, literal, literal_of, goes_on, loop, when}
 use Rattle.protox_tokens.specs.Refusal.{Fault, a_string}
 use Rattle.protox_tokens.specs.Span.{across}
-use Rattle.protox_tokens.specs.Stream.{Stream, Seen, source, look}
+use Rattle.protox_tokens.specs.Stream.{Piece, Stream, Seen, source, look}
 use Rattle.protox_tokens.proofs.Both.{Always, then_ok}
 use Rattle.protox_tokens.proofs.Loops.{loop-is}
 use Rattle.protox_tree.specs.FileTree.{SyntaxStatement}
 use Rattle.protox_tree.specs.Tree.{Word, joined, words_span}
 use Rattle.protox_tree.specs.declared.types.Syntax.{Syntax}
 use Rattle.protox_tree.specs.declared.types.Syntax.TheVariants as syntaxes
-use Rattle.source_grammar.proofs.Viable.{Goes, Went, Viable, goes_then, then_at, viable_then, Any, viable_end, viable_equal}
+use Rattle.source_grammar.proofs.ViableTokens.{sign_written, string_written}
+use Rattle.source_grammar.proofs.Viable.{Goes, Went, Viable, goes_then, then_at, viable_then, Any, viable_end}
+use Rattle.source_grammar.proofs.ViableForms.{viable_equal}
 use Rattle.source_grammar.proofs.ViableSteps.{made, viable_checked, viable_expect}
 use Rattle.source_grammar.proofs.ViableLoops.{stops_when}
 use Rattle.source_grammar.proofs.ViableNames.{some_string, start, NoString, viable_literals_after}
@@ -74,26 +76,27 @@ string_ends w s h = then_ok (λ rest. pure (w ∷ rest)) (loop-is (when is_strin
 
 -- ---- what stands behind the string
 
-module _ (first : Span) where
+module _ (W : Piece → Type 0) (first : Span) where
   abbrev named_by : List Word → Option Syntax → Parser SyntaxStatement
   named_by value o = known (words_span value) o >>= (λ x. expect (sign signs.Semicolon) >>= (λ last. pure (record { syntax = x; value = value; span = across first last })))
 
   abbrev names : List Word → Parser SyntaxStatement
   names value = named_by value (language (joined value))
 
-  viable_named : (value : List Word) (x : Syntax) → Viable (λ s. is_string s ≡ false) (named_by value (Some x)) (named_by value (Some x)) Any
-  viable_named value x = viable_then (viable_expect (sign signs.Semicolon) (λ s. is_string s ≡ false) (λ x t u h. h) refl (λ s. refl)) (λ j last.
+  viable_named : (value : List Word) (x : Syntax) → Viable W (λ s. is_string s ≡ false) (named_by value (Some x)) Any
+  viable_named value x = viable_then (viable_expect (sign signs.Semicolon) (sign_written signs.Semicolon) (λ s. is_string s ≡ false) (λ x t u h. h) refl (λ s. refl)) (λ j last.
       viable_end (record { syntax = x; value = value; span = across first last }))
 
-  named_went : (value : List Word) (o : Option Syntax) (r : Stream) → is_string r ≡ false → Went (λ s. is_string s ≡ false) (named_by value o) Any r (named_by value o r)
+  named_went : (value : List Word) (o : Option Syntax) (r : Stream) → is_string r ≡ false → Went W (λ s. is_string s ≡ false) (named_by value o) Any r (named_by value o r)
   named_went value None r h = tt
   named_went value (Some x) r h = (viable_named value x).held.at r h
 
   abbrev behind_literal : Word → Parser SyntaxStatement
   behind_literal w = string_from w >>= names
 
-  behind_by : (w : Word) (r : Stream) (o : Outcome (List Word)) → string_from w r ≡ o → Went Always (string_from w) NoString r o → Went Always (behind_literal w) Any r (and_then o names)
-  behind_by w r (Ok x) e c = then_at Always (string_from w) NoString names Any r x.1 x.0 c (names x.0 x.1) (named_went x.0 (language (joined x.0)) x.1 c.told)
+  -- A string is not refused behind its first literal, so that no language has to be found for what was read of one.
+  behind_by : (w : Word) (r : Stream) (o : Outcome (List Word)) → string_from w r ≡ o → Went W Always (string_from w) NoString r o → Went W Always (behind_literal w) Any r (and_then o names)
+  behind_by w r (Ok x) e c = then_at W Always (string_from w) NoString names Any r x.1 x.0 c (names x.0 x.1) (named_went x.0 (language (joined x.0)) x.1 c.told)
   behind_by w r (Err f) e c = absurd (string_read w r f e)
 
   abbrev proto2 : Word
@@ -104,16 +107,16 @@ module _ (first : Span) where
   is_language = refl
 
   behind_goes : Goes Always (behind_literal proto2) Any []
-  behind_goes = goes_then Always (string_from proto2) NoString names Any [] (record { more = []; kind = tt; value = proto2 ∷ []; reads = λ s g. (tt, string_ends proto2 s g) })
+  behind_goes = goes_then W Always (string_from proto2) NoString names Any [] (record { more = []; stand = tt; kind = tt; value = proto2 ∷ []; reads = λ s g. (tt, string_ends proto2 s g) })
       (subst (λ o. Goes (λ s. is_string s ≡ false) (named_by (proto2 ∷ []) o) Any []) (sym is_language) (viable_named (proto2 ∷ []) syntaxes.Proto2).begin)
 
   regrouped : (o : Outcome Word) → and_then (and_then o string_from) names ≡ and_then o behind_literal
   regrouped (Ok x) = refl
   regrouped (Err f) = refl
 
-  pub viable_syntax_behind : Viable Always (syntax_behind first) (syntax_behind first) Any
+  pub viable_syntax_behind : Viable W Always (syntax_behind first) Any
   unfolding syntax_behind strings literal
-  viable_syntax_behind = viable_then (viable_expect (sign signs.Equals) Always (λ x t u h. h) refl (λ s. tt)) (λ i e.
-      viable_equal (λ s. regrouped (one source a_string literal_of s)) (λ s. regrouped (one source a_string literal_of s))
-      (viable_checked source a_string literal_of Always (λ x t u h. h) (made some_string) proto2 refl (λ s. tt) behind_literal behind_literal Any behind_goes
+  viable_syntax_behind = viable_then (viable_expect (sign signs.Equals) (sign_written signs.Equals) Always (λ x t u h. h) refl (λ s. tt)) (λ i e.
+      viable_equal (λ s. regrouped (one source a_string literal_of s))
+      (viable_checked _ source a_string literal_of Always (λ x t u h. h) (made some_string) proto2 refl string_written (λ s. tt) behind_literal Any behind_goes
       (λ w r. behind_by w r (string_from w r) refl ((viable_literals_after w).held.at r tt))))

@@ -4,7 +4,6 @@ pub mod Enums
 pub mod Fields
 pub mod Files
 pub mod Languages
-pub mod Levels
 pub mod Messages
 pub mod Names
 pub mod Options
