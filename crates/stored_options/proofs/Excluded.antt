@@ -99,7 +99,7 @@ module _ (a b : DynamicMessage) (twins : AreTwins a b) (x y : Target) (same : (t
   sb = twins.pools.also
 
   -- both hold many values, or neither
-  many : holds_many x ≡ holds_many y
+  pub many : holds_many x ≡ holds_many y
   many = many_same a.descriptor b.descriptor twins.pools twins.index x y same owns too
 
   fields : target_field a.descriptor x ≡ target_field b.descriptor y
@@ -119,7 +119,7 @@ module _ (a b : DynamicMessage) (twins : AreTwins a b) (x y : Target) (same : (t
 
   module _ (levels : ℕ) (one : Exclusive (suc (suc levels)) a) (two : Exclusive (suc (suc levels)) b) where
     -- what is set in the one is set in the other
-    not_set : holds_many x ≡ false → steps.is_set a x ≡ true → steps.is_set b y ≡ false → ⊥
+    pub not_set : holds_many x ≡ false → steps.is_set a x ≡ true → steps.is_set b y ≡ false → ⊥
     not_set single set unset =
         true≢false
         (sym set ∙ set_seen (suc levels) a sa one x owns single ∙ (λ i. is_set (twins.seen i (same i)))
@@ -159,7 +159,7 @@ module _ (a b : DynamicMessage) (twins : AreTwins a b) (x y : Target) (same : (t
           (c.0, (c.1 ∙ sym (pool_is a.descriptor sa.apart x owns), c.2))
 
       -- what leads into a message does not lead nowhere
-      leads_somewhere : (e : OptionErrorKind) → LeadsNowhere x a e → ⊥
+      pub leads_somewhere : (e : OptionErrorKind) → LeadsNowhere x a e → ⊥
       leads_somewhere (kinds.InvalidOptionType name) (inl of_many) = true≢false (sym of_many ∙ many ∙ into.one)
       leads_somewhere (kinds.InvalidOptionType name) (inr (inl no_kind)) = no_kind its_type.0 its_type.1
       leads_somewhere (kinds.InvalidOptionType name) (inr (inr (v, at, no_message))) =
@@ -174,20 +174,20 @@ module _ (s t : NameScope) (alike : NameAlike s t) where
   -- what a part names in the one message and in the other
   module _ (a b : DynamicMessage) (twins : AreTwins a b) (part : NamePart) (x y : Target) (named : NamesTarget s a.descriptor part x) (also : NamesTarget t b.descriptor part y)
       (whole : HoldsFloats (target_pool y) (target_type y) → ⊥) where
-    same_target : (target_type x).number ≡ (target_type y).number
+    pub same_target : (target_type x).number ≡ (target_type y).number
     same_target = one_target s t alike a.descriptor b.descriptor twins.pools twins.index part x y named also
 
-    owns_second : OwnsTarget b.descriptor y
+    pub owns_second : OwnsTarget b.descriptor y
     owns_second = named_owns t b.descriptor twins.pools.also.apart part y also whole
 
     -- where the one holds no floating-point numbers, the other does not
-    first_whole : HoldsFloats (target_pool x) (target_type x) → ⊥
+    pub first_whole : HoldsFloats (target_pool x) (target_type x) → ⊥
     first_whole =
         whole_named a.descriptor twins.pools.sound.apart s part x named (target_field b.descriptor y)
         (there_too a.descriptor b.descriptor twins.pools twins.index (target_type x).number (target_type y).number (target_field b.descriptor y) same_target
         (declared b.descriptor twins.pools.also y owns_second))
 
-    owns_first : OwnsTarget a.descriptor x
+    pub owns_first : OwnsTarget a.descriptor x
     owns_first = named_owns s a.descriptor twins.pools.sound.apart part x named first_whole
 
   -- an option is not refused and set

@@ -64,6 +64,12 @@ pub mod Led
 pub mod Reworded
 pub mod TwinBatches
 pub mod RefusedFiles
+pub mod RefusedReworded
+pub mod RefusedAt
+pub mod OnePlace
+pub mod OneLack
+pub mod OneSort
+pub mod OneTelling
 pub mod OneNumber
 pub mod Leads
 pub mod FurtherBatches

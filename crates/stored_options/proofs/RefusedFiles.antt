@@ -37,10 +37,10 @@ use Rattle.stored_options.proofs.TwinPools.{AreTwinPools, twins_moved}
 -- ---- entities of one file
 
 -- they are of the file of this index
-abbrev Own : ℕ → ℕ → Said
+abbrev pub Own : ℕ → ℕ → Said
 Own i file scope path o = file ≡ i
 
-in_its_file : (i : ℕ) (f : FileDescriptorProto) → AllByRecursion (Meets (Own i)) (file_entities i f)
+pub in_its_file : (i : ℕ) (f : FileDescriptorProto) → AllByRecursion (Meets (Own i)) (file_entities i f)
 in_its_file i f = entities_of (Own i) i f (file_keeps (StandsInScope (file_view f)) (Own i i) (λ scope path o stands. refl) (file_view f) (file_scoped (file_view f)))
 
 module _ (p q : PoolType) (whole : IsPool p) (whole_too : IsPool q) (twins : AreTwinPools p q) (same : map file_view p.records ≡ map file_view q.records) where
@@ -48,7 +48,7 @@ module _ (p q : PoolType) (whole : IsPool p) (whole_too : IsPool q) (twins : Are
     -- ---- one entity
 
     module _ (i : ℕ) (c d : Entity) (like : IsSameEntity c d) (mine : Meets (Own i) c) (its : Meets (Own i) d) where
-      one_content : (o x : Options) → c.options ≡ Some o → d.options ≡ Some x → options_view x ≡ options_view o
+      pub one_content : (o x : Options) → c.options ≡ Some o → d.options ≡ Some x → options_view x ≡ options_view o
       one_content o x there has =
           same_Some (options_view x) (options_view o) (sym (ap (option_map options_view) has) ∙ sym like.options ∙ ap (option_map options_view) there)
 
@@ -65,7 +65,7 @@ module _ (p q : PoolType) (whole : IsPool p) (whole_too : IsPool q) (twins : Are
               let pools : AreTwinPools s.pool.now t.pool.now = twins_moved p q s.pool.now t.pool.now a.pool b.pool twins in
               not_left c.scope s t pools.messages o at e why (stay_same c.scope t o x (one_content o x there has) (subst (λ v. StayAsTheyAre v t x) (sym like.scope) stay))
 
-        entity_refused : (es : List Edit) (ms : List Move) → SettlesEntity q d es ms → ⊥
+        pub entity_refused : (es : List Edit) (ms : List Move) → SettlesEntity q d es ms → ⊥
         entity_refused es ms settles = by d.options refl settles where
           by : (y : Option Options) → d.options ≡ y → MatchOption y ((es ≡ []) × (ms ≡ [])) (λ x. (t : NameScope) × IsScopeOf q d t × SettlesIn d t x es ms) → ⊥
           by None none settled = cc (sym (ap (option_map options_view) refuses.3) ∙ like.options ∙ ap (option_map options_view) none)
@@ -98,7 +98,7 @@ module _ (p q : PoolType) (whole : IsPool p) (whole_too : IsPool q) (twins : Are
     beside i (x ∷ front) back c [] es ms zip first second all = absurd zip
     beside i (x ∷ front) back c (d ∷ ds) es ms zip first second all = beside i front back c ds all.1 all.3 zip.1 first.1 second.1 all.5
 
-    file_refused : (i : ℕ) (f g : FileDescriptorProto) → file_view f ≡ file_view g → (path : List ℤ) (e : OptionErrorKind) (es : List Edit) → RefusesFile p i f path e → SettlesFile q i g es → ⊥
+    pub file_refused : (i : ℕ) (f g : FileDescriptorProto) → file_view f ≡ file_view g → (path : List ℤ) (e : OptionErrorKind) (es : List Edit) → RefusesFile p i f path e → SettlesFile q i g es → ⊥
     file_refused i f g content path e es refuses settles =
         let zip = subst (λ cs. AllZip IsSameEntity cs (file_entities i g)) refuses.5 (same_entities i i f g (ap unlocated content)) in
         let first = subst (AllByRecursion (Meets (Own i))) refuses.5 (in_its_file i f) in
@@ -108,7 +108,7 @@ module _ (p q : PoolType) (whole : IsPool p) (whole_too : IsPool q) (twins : Are
     -- ---- all files
 
     -- of so many files each is settled
-    file_settled : (first n k : ℕ) (es : List Edit) (f : FileDescriptorProto) → k < n → slice_get q.records (first + k) ≡ Some f → SettlesFiles q first n es
+    pub file_settled : (first n k : ℕ) (es : List Edit) (f : FileDescriptorProto) → k < n → slice_get q.records (first + k) ≡ Some f → SettlesFiles q first n es
         → (own : List Edit) × SettlesFile q (first + k) f own
     file_settled first zero k es f less found all = absurd (omega (arith, less))
     file_settled first (suc n) k es f less found (front, own, g, before, there, settles, is) =

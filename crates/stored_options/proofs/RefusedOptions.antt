@@ -63,7 +63,7 @@ module _ (scope : OptionScope) (s : NameScope) (sound : IsSound s.pool.now) (can
   its_sound : IsSound d.pool.now
   its_sound = type_sound scope s d its sound
 
-  stored_shape : (stored : DynamicMessage) → IsStored scope d o stored → Exclusive (suc top) stored
+  pub stored_shape : (stored : DynamicMessage) → IsStored scope d o stored → Exclusive (suc top) stored
   stored_shape stored is = deeper_shape true 101 (suc top) (omega arith) stored (decoded_exclusive d o.encoded.items stored is.0 is.1 is.3)
 
   module _ (whole : DynamicMessage) (paths : List (List ℤ)) (is : IsWhole scope s d o whole paths) where
@@ -110,11 +110,11 @@ module _ (scope : OptionScope) (s : NameScope) (sound : IsSound s.pool.now) (can
 -- ---- what they come to twice
 
 -- no type has the name, and one has
-no_such_type : (p : PoolType) (name : List ℕ) (d : MessageDescriptor) → FindsMessage p name None → FindsMessage p name (Some d) → ⊥
+pub no_such_type : (p : PoolType) (name : List ℕ) (d : MessageDescriptor) → FindsMessage p name None → FindsMessage p name (Some d) → ⊥
 no_such_type p name d none some = none d.index no_type some.0 (some.1.0 no_type)
 
 -- what is found in the one pool is found in the other
-found_there : (p q : PoolType) → map outline p.messages ≡ map outline q.messages → (scope : OptionScope) (found : Option MessageDescriptor)
+pub found_there : (p q : PoolType) → map outline p.messages ≡ map outline q.messages → (scope : OptionScope) (found : Option MessageDescriptor)
     → FindsMessage p (type_name scope) found → FindsMessage q (type_name scope) found
 found_there p q same scope None h = message_there p q same (without_dot (type_name scope)) None h
 found_there p q same scope (Some d) h = message_there p q same (without_dot (type_name scope)) (Some d.index) h
@@ -129,20 +129,20 @@ not_left scope s t same o at k (inr (finds, inr (d, its, why))) stay = no_such_t
 
 module _ (scope : OptionScope) (s t : NameScope) (alike : NameAlike s t) (twins : AreTwinPools s.pool.now t.pool.now) (can : CanRead s.pool.now scope) (can_too : CanRead t.pool.now scope) (o : Options) where
   module _ (d e : MessageDescriptor) (its : IsType scope s d) (also : IsType scope t e) where
-    pools : AreTwinPools d.pool.now e.pool.now
-    pools = twins_moved s.pool.now t.pool.now d.pool.now e.pool.now its.0 also.0 twins
+    pub type_twins : AreTwinPools d.pool.now e.pool.now
+    type_twins = twins_moved s.pool.now t.pool.now d.pool.now e.pool.now its.0 also.0 twins
 
-    index : d.index ≡ e.index
-    index =
+    pub one_index : d.index ≡ e.index
+    one_index =
         one_first (λ (m : MessageType). m.full_name ≡ without_dot (type_name scope)) t.pool.now.messages no_type d.index e.index
         (found_there s.pool.now t.pool.now twins.messages scope (Some d) its.1) also.1
 
     -- what the bytes spell
-    stored_twins : (m n : DynamicMessage) → IsStored scope d o m → IsStored scope e o n → AreTwins m n
+    pub stored_twins : (m n : DynamicMessage) → IsStored scope d o m → IsStored scope e o n → AreTwins m n
     stored_twins m n a b = record {
-      pools = twins_moved d.pool.now e.pool.now m.descriptor.pool.now n.descriptor.pool.now (ap (λ (c : MessageDescriptor). c.pool.now) a.0) (ap (λ (c : MessageDescriptor). c.pool.now) b.0) pools;
-      index = ap (λ (c : MessageDescriptor). c.index) a.0 ∙ index ∙ sym (ap (λ (c : MessageDescriptor). c.index) b.0);
-      seen = spelled_twice d e pools index o.encoded.items m n a.0 b.0 a.1 b.1;
+      pools = twins_moved d.pool.now e.pool.now m.descriptor.pool.now n.descriptor.pool.now (ap (λ (c : MessageDescriptor). c.pool.now) a.0) (ap (λ (c : MessageDescriptor). c.pool.now) b.0) type_twins;
+      index = ap (λ (c : MessageDescriptor). c.index) a.0 ∙ one_index ∙ sym (ap (λ (c : MessageDescriptor). c.index) b.0);
+      seen = spelled_twice d e type_twins one_index o.encoded.items m n a.0 b.0 a.1 b.1;
     }
 
     -- of a message what it says of entries
@@ -151,13 +151,13 @@ module _ (scope : OptionScope) (s t : NameScope) (alike : NameAlike s t) (twins 
     entry_agrees message m n of too h k =
         let has = subst (λ c. IfSome (typed_option c) (λ t. HasField d.pool.now d.index t.1 (IsTruthValue t.0))) message (option_type scope s d its can).typed in
         let have = subst (λ c. IfSome (typed_option c) (λ t. HasField e.pool.now e.index t.1 (IsTruthValue t.0))) message (option_type scope t e also can_too).typed in
-        truth_seen d pools.sound 7 (codes "map_entry") has.0 has.1 has.2 m of (stored_plain d o.encoded.items m h pools.sound 7 has.0 has.1 has.2.truth has.2.presence)
-        ∙ ap (λ (v : Message). seen_truth (v 7)) (spelled_twice d e pools index o.encoded.items m n of too h k)
-        ∙ sym (truth_seen e pools.also 7 (codes "map_entry") have.0 have.1 have.2 n too (stored_plain e o.encoded.items n k pools.also 7 have.0 have.1 have.2.truth have.2.presence))
+        truth_seen d type_twins.sound 7 (codes "map_entry") has.0 has.1 has.2 m of (stored_plain d o.encoded.items m h type_twins.sound 7 has.0 has.1 has.2.truth has.2.presence)
+        ∙ ap (λ (v : Message). seen_truth (v 7)) (spelled_twice d e type_twins one_index o.encoded.items m n of too h k)
+        ∙ sym (truth_seen e type_twins.also 7 (codes "map_entry") have.0 have.1 have.2 n too (stored_plain e o.encoded.items n k type_twins.also 7 have.0 have.1 have.2.truth have.2.presence))
 
     module _ (n : DynamicMessage) (b : IsStored scope e o n) where
-      refuses_stored : (c : OptionScope) → scope ≡ c → (k : OptionErrorKind) → RefusesStored c d o k → ⊥
-      refuses_stored c is (kinds.UndecodableOptions (Some w)) h = not_told d e pools index o.encoded.items n b.1 w h.0 h.1
+      pub refuses_stored : (c : OptionScope) → scope ≡ c → (k : OptionErrorKind) → RefusesStored c d o k → ⊥
+      refuses_stored c is (kinds.UndecodableOptions (Some w)) h = not_told d e type_twins one_index o.encoded.items n b.1 w h.0 h.1
       refuses_stored scopes.Message is (kinds.UndecodableOptions None) h =
           let agrees : AgreesOnEntries scopes.Message o n = subst (λ c. AgreesOnEntries c o n) is b.2 in
           h.3 (ap (λ t. unwrap_or t false) (entry_agrees is h.0 n h.1 b.0 h.2 b.1) ∙ agrees)
@@ -185,14 +185,14 @@ module _ (scope : OptionScope) (s t : NameScope) (alike : NameAlike s t) (twins 
       same_bytes : message_bytes whole ≡ message_bytes other
       same_bytes =
           whole_written scope s twins.sound can o d its whole paths a
-          ∙ (λ i. bytes_of (types_same d.pool.now e.pool.now pools i) (name_same d.pool.now e.pool.now pools d.index e.index index i) (whole_seen i))
+          ∙ (λ i. bytes_of (types_same d.pool.now e.pool.now type_twins i) (name_same d.pool.now e.pool.now type_twins d.index e.index one_index i) (whole_seen i))
           ∙ sym (whole_written scope t twins.also can_too o e also other ways b)
 
       unlike : (w : WireError) → w ≢ errors.Memory → TellsWhy whole.descriptor (message_bytes whole) w → IsReadBack other → ⊥
       unlike w differs why (back, spelled) =
           let one : whole.descriptor ≡ d = whole_type scope s twins.sound can o d its whole paths a in
           let two : other.descriptor ≡ e = whole_type scope t twins.also can_too o e also other ways b in
-          not_told d e pools index (message_bytes whole) back
+          not_told d e type_twins one_index (message_bytes whole) back
           (subst (λ (c : MessageDescriptor). IsSpelled c (message_bytes whole) back) two (subst (λ bytes. IsSpelled other.descriptor bytes back) (sym same_bytes) spelled)) w differs
           (subst (λ (c : MessageDescriptor). TellsWhy c (message_bytes whole) w) one why)
 
@@ -210,7 +210,7 @@ module _ (scope : OptionScope) (s t : NameScope) (alike : NameAlike s t) (twins 
         (stored_shape scope s twins.sound can o d its stored is) (stored_shape scope t twins.also can_too o e also b.0 b.2) refuses b.3
 
   -- none is forbidden, and one is
-  forbidden_none : (at : Option ℕ) (k : OptionErrorKind) → IsForbiddenAt scope o at k → FindsForbidden scope o None → ⊥
+  pub forbidden_none : (at : Option ℕ) (k : OptionErrorKind) → IsForbiddenAt scope o at k → FindsForbidden scope o None → ⊥
   forbidden_none (Some place) (kinds.ForbiddenOption name) (first, (x, there, tells)) none = none place x first.0 (first.1.0 x)
   forbidden_none at k forbidden none = absurd forbidden
 

@@ -20,7 +20,7 @@ use Rattle.stored_options.proofs.TwinPools.{first_there}
 
 module _ (s : NameScope) where
   -- a part of a name leads where its content does
-  part_same : (d : MessageDescriptor) (p q : NamePart) → name_view q ≡ name_view p → (t : Target) → NamesTarget s d q t → NamesTarget s d p t
+  pub part_same : (d : MessageDescriptor) (p q : NamePart) → name_view q ≡ name_view p → (t : Target) → NamesTarget s d q t → NamesTarget s d p t
   part_same d p q same t named = subst (λ (c : NameContent). Names s d c t) same named
 
   -- and so does a name
@@ -54,7 +54,7 @@ module _ (s : NameScope) where
       )
 
   -- options are set as their contents are
-  all_same : (os xs : List UninterpretedOption) → map option_view xs ≡ map option_view os → (old new : DynamicMessage) (paths : List (List ℤ))
+  pub all_same : (os xs : List UninterpretedOption) → map option_view xs ≡ map option_view os → (old new : DynamicMessage) (paths : List (List ℤ))
       → SetsAll s xs old new paths → SetsAll s os old new paths
   all_same [] [] same old new paths sets = sets
   all_same [] (x ∷ xs) same old new paths sets = absurd (cc same)
@@ -67,11 +67,11 @@ module _ (s : NameScope) where
       (sets.0, sets.1, sets.2, subst (λ (c : OptionContent). SetsParts s c 100 o.name.items old sets.0 sets.1) one first, all_same os xs rest sets.0 new sets.2 sets.4, sets.5)
 
 -- what they say of a map's entries is so of both
-agrees_same : (scope : OptionScope) (o x : Options) (m : DynamicMessage) → x.map_entry ≡ o.map_entry → AgreesOnEntries scope x m → AgreesOnEntries scope o m
+pub agrees_same : (scope : OptionScope) (o x : Options) (m : DynamicMessage) → x.map_entry ≡ o.map_entry → AgreesOnEntries scope x m → AgreesOnEntries scope o m
 agrees_same scopes.Message o x m same agrees = agrees ∙ ap (λ e. unwrap_or e false) same
 agrees_same scope o x m same agrees = agrees
 
-none_left : (os xs : List UninterpretedOption) → map option_view xs ≡ map option_view os → xs ≡ [] → os ≡ []
+pub none_left : (os xs : List UninterpretedOption) → map option_view xs ≡ map option_view os → xs ≡ [] → os ≡ []
 none_left [] xs same none = refl
 none_left (o ∷ os) xs same none = absurd (cc (sym same ∙ ap (map option_view) none))
 

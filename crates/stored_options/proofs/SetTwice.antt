@@ -44,7 +44,7 @@ use Rattle.stored_options.proofs.EachStep.{above}
 use Rattle.stored_options.proofs.ShapeAlong.{parts_shape}
 use Rattle.stored_options.proofs.TwinFields.{declared, field_same, is_map, map_told, one_key}
 use Rattle.stored_options.proofs.TwinKinds.{nested_name}
-use Rattle.stored_options.proofs.TwinPools.{AreTwinPools, name_same, none_decoded, one_place, twins_moved, type_same}
+use Rattle.stored_options.proofs.TwinPools.{AreTwinPools, name_same, none_decoded, one_place, twins_back, twins_moved, type_same}
 
 -- ---- the last part of a name
 
@@ -130,6 +130,13 @@ pub record AreTwins (a b : DynamicMessage) : Type 0 where
   pub pools : AreTwinPools a.descriptor.pool.now b.descriptor.pool.now
   pub index : a.descriptor.index ≡ b.descriptor.index
   pub seen : view a ≡ view b
+
+pub messages_back : (a b : DynamicMessage) → AreTwins a b → AreTwins b a
+messages_back a b twins = record {
+  pools = twins_back a.descriptor.pool.now b.descriptor.pool.now twins.pools;
+  index = sym twins.index;
+  seen = sym twins.seen;
+}
 
 -- what comes of them of their types
 pub twins_kept : (a b x y : DynamicMessage) → AreTwins a b → x.descriptor ≡ a.descriptor → y.descriptor ≡ b.descriptor → view x ≡ view y → AreTwins x y

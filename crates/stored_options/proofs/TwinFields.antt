@@ -98,7 +98,7 @@ module _ (a b : MessageDescriptor) (twins : AreTwinPools a.pool.now b.pool.now) 
     label_same : label_of a.pool.now (target_type x) ≡ label_of b.pool.now (target_type y)
     label_same = sym (target_label a x) ∙ ap (λ (f : Field). f.label) field_same ∙ target_label b y
 
-    map_same : holds_map a.pool.now (target_type x) ≡ holds_map b.pool.now (target_type y)
+    pub map_same : holds_map a.pool.now (target_type x) ≡ holds_map b.pool.now (target_type y)
     map_same = maps_alike a.pool.now b.pool.now (target_type x) (target_type y) label_same
 
     list_same : holds_list a.pool.now (target_type x) ≡ holds_list b.pool.now (target_type y)

@@ -88,6 +88,15 @@ pub record AreTwinPools (p q : PoolType) : Type 0 where
 pub twins_itself : (p : PoolType) → IsSound p → AreTwinPools p p
 twins_itself p sound = record { sound = sound; also = sound; schema = refl; messages = refl; extensions = refl }
 
+pub twins_back : (p q : PoolType) → AreTwinPools p q → AreTwinPools q p
+twins_back p q twins = record {
+  sound = twins.also;
+  also = twins.sound;
+  schema = sym twins.schema;
+  messages = sym twins.messages;
+  extensions = sym twins.extensions;
+}
+
 pub twins_moved : (p q x y : PoolType) → x ≡ p → y ≡ q → AreTwinPools p q → AreTwinPools x y
 twins_moved p q x y first second twins = subst (λ z. AreTwinPools x z) (sym second) (subst (λ z. AreTwinPools z q) (sym first) twins)
 

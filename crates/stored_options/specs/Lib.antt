@@ -4,3 +4,4 @@ pub mod SetOptions
 pub mod NamedNumbers
 pub mod Standing
 pub mod Braces
+pub mod ToldAlike
