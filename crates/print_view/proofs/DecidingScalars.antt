@@ -1,5 +1,5 @@
 -- Whether a value, a payload and a record are what a kind, and what numbers ask for.
-use Rattle.std.proofs.Common.{◌≡◌, inl, ℕ, ◌-◌, ◌^◌, List, [], ◌∷◌, length, ◌∙◌, IsUtf8}
+use Rattle.std.proofs.Common.{inl, ℕ, ◌-◌, ◌^◌, List, length, IsUtf8}
 use Rattle.std.proofs.lemmas.Str.{IsUtf8-from_is_utf8, is_utf8-from_IsUtf8}
 use Rattle.std.specs.Str.{is_utf8}
 use lib.Signed.{mag}

@@ -1,6 +1,6 @@
 -- The faults of names stand at paths of their files.
 use Rattle.std.specs.declared.alloc.Global.{Global}
-use Rattle.std.proofs.Common.{◌≡◌, ◌+◌, ℕ, ℤ, pos, Bool, true, false, not, ◌||◌, List, [], ◌∷◌, ◌++◌, Option, None, Some, String, codes, length, refl}
+use Rattle.std.proofs.Common.{◌+◌, ℕ, ℤ, pos, Bool, true, false, not, ◌||◌, List, [], ◌∷◌, ◌++◌, Option, None, Some, String, codes, length, refl}
 use Rattle.std.specs.Prelude.{is_some, string_bytes}
 use Rattle.std.specs.Str.{bytes_eq}
 use Rattle.descriptor_records.specs.declared.field.FieldDescriptorProto.{FieldDescriptorProto}

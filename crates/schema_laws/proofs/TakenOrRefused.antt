@@ -1,5 +1,5 @@
 -- What links is not refused for how it links.
-use Rattle.std.proofs.Common.{◌≡◌, ◌∙◌, ◌≤◌, ◌+◌, ◌^◌, inl, inr, ℕ, List, ◌∷◌, map, ap, sym, subst}
+use Rattle.std.proofs.Common.{◌≡◌, ◌∙◌, ◌≤◌, ◌+◌, ◌^◌, inl, inr, ℕ, List, map, ap, sym, subst}
 use Rattle.std.specs.List.{filter}
 use Rattle.descriptor_records.specs.Content.{FileContent, file_view, set_view}
 use Rattle.descriptor_records.specs.declared.file.FileDescriptorProto.{FileDescriptorProto}
