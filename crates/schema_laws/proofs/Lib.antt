@@ -63,6 +63,7 @@ pub mod WrittenAlike
 pub mod Sizes
 pub mod TakenOrRefused
 pub mod TakenOptions
+pub mod OneRefusal
 pub mod RequiredTypes
 pub mod Placed
 pub mod PlacedNames

@@ -26,6 +26,7 @@ use Rattle.settled_view.proofs.Built.{itself}
 use Rattle.settled_view.proofs.Transfer.{pool_before}
 use Rattle.stored_options.proofs.RefusedFiles.{pool_refused}
 use Rattle.stored_options.proofs.TwinBatches.{linked_once, schema_once, twins_built}
+use Rattle.stored_options.proofs.TwinPools.{AreTwinPools}
 use Rattle.types_view.specs.Typed.{IsTyped}
 use Rattle.types_view.proofs.Settled.{IsTypedMore, typed_more}
 use Rattle.schema_laws.specs.Histories.{IsGrown, Sources}
@@ -77,10 +78,21 @@ module _ (batches : List (List FileContent)) (p q : PoolType) (a : IsTyped batch
   reads : (scope : OptionScope) → CanRead q scope → CanRead p scope
   reads scope can = read_alike q p also sound (sym (schema_once batches p q a b whole whole_too same unread)) keep scope can
 
-  -- where the options of the one are refused, those of the other are not settled
-  pub not_settled : (new : PoolType) (first : ℕ) (e : OptionError) → RefusesFrom p first (option_place e) e.kind → SettlesPool q first new → ⊥
-  not_settled new first e refuses settles =
-      pool_refused p q new first (option_place e) e.kind whole whole_too (twins_built batches p q a b whole whole_too same sound also) same reads refuses settles
+-- they say the same to texts, and the one reads options where the other does
+pub record AreMadeAlike (p q : PoolType) : Type 0 where
+  pub twins : AreTwinPools p q
+  pub same : map file_view p.records ≡ map file_view q.records
+  pub reads : (scope : OptionScope) → CanRead p scope → CanRead q scope
+  pub back : (scope : OptionScope) → CanRead q scope → CanRead p scope
+
+made_alike : (batches : List (List FileContent)) (p q : PoolType) → IsTyped batches p → IsTyped batches q → IsPool p → IsPool q → IsSound p → IsSound q
+    → map file_view p.records ≡ map file_view q.records → TellsMessages p → TellsMessages q → AreMadeAlike p q
+made_alike batches p q a b whole whole_too sound also same tells tells_too = record {
+  twins = twins_built batches p q a b whole whole_too same sound also;
+  same = same;
+  reads = reads batches q p b a whole_too whole also sound (sym same) tells_too tells;
+  back = reads batches p q a b whole whole_too sound also same tells tells_too;
+}
 
 -- ---- two pools that files of one content make of one
 
@@ -120,10 +132,15 @@ module _ (old p q : PoolType) (g : HasGrown old) (fs gs : List FileDescriptorPro
       ∙ ap (λ ms. map file_view old.records ++ ms) more_same
       ∙ sym (ap (map file_view) more_too.beside ∙ map-append file_view old.records more_too.more)
 
+  pub made_behind : IsSound p → IsSound q → AreMadeAlike p q
+  made_behind sound also =
+      made_alike (batch ∷ g.batches) p q more.typed built_too whole whole_too sound also records_same (accepted_tell old p fs g.told faultless) (accepted_tell old q gs g.told faultless_too)
+
+  -- where the options of the one are refused, those of the other are not settled
   pub not_settled_behind : IsSound p → IsSound q → (new : PoolType) (e : OptionError) → RefusesFrom p (length old.files) (option_place e) e.kind → SettlesPool q (length old.files) new → ⊥
   not_settled_behind sound also new e refuses settles =
-      not_settled (batch ∷ g.batches) p q more.typed built_too whole whole_too sound also records_same
-      (accepted_tell old p fs g.told faultless) (accepted_tell old q gs g.told faultless_too) new (length old.files) e refuses settles
+      let made : AreMadeAlike p q = made_behind sound also in
+      pool_refused p q new (length old.files) (option_place e) e.kind whole whole_too made.twins made.same made.back refuses settles
 
 -- ---- files, sources, sets
 

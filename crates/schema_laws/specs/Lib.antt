@@ -11,3 +11,4 @@ pub mod ToldMessages
 pub mod StoredBytes
 pub mod LyingBytes
 pub mod InBraces
+pub mod OptionRefusals

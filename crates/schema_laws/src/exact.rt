@@ -1,5 +1,6 @@
-//! Laws of how what a schema takes and what it refuses exclude each other, each the contract of a
-//! function that does nothing. That `IsPool` holds of each pool `pools_are_whole` says.
+//! Laws of how what a schema takes and what it refuses exclude each other, and of what two refusals
+//! tell alike, each the contract of a function that does nothing. That `IsPool` holds of each pool
+//! `pools_are_whole` says.
 ghost use Rattle.std.specs.Prelude.{ℕ, List};
 ghost use Rattle.option_parts.specs.OptionTypes.{ReadsOptions, TellsRequired};
 ghost use Rattle.option_parts.specs.declared.option_error.OptionError.{OptionError};
@@ -16,6 +17,7 @@ ghost use Rattle.schema_core.specs.declared.error.SchemaError.TheVariants.{Link,
 ghost use Rattle.schema_core.specs.declared.error.SchemaError.TheVariants.{TooLong, Wire};
 ghost use Rattle.schema_core.specs.declared.schema.Schema.{Schema};
 ghost use Rattle.schema_laws.specs.Histories.{IsGrown, Sources};
+ghost use Rattle.schema_laws.specs.OptionRefusals.{TellTheSame};
 
 /// Of sources that are added to one schema, each of fewer bytes than are too large, none is
 /// refused as such, by that schema or another; and a schema that takes them does not refuse them
@@ -45,6 +47,17 @@ pub fn linked_sets_are_not_refused()
     ensures options { (old new : Schema) (bytes : List ℕ) (e : OptionError)
         → IsGrown old → IsPool new.pool → SetLinked old.pool bytes new.pool
         → SetRefused old.pool bytes (Options e) → ⊥ }
+{}
+
+/// Two refusals of the same sources for their options, by the same schema, tell the same place, if
+/// any, and there a fault of one sort, of an option of one name; and so it is of sets.
+pub fn refusals_of_options_tell_the_same()
+    ensures sources { (old : Schema) (given : Sources) (e f : OptionError) → IsGrown old
+        → SourcesRefused old.pool given (Options e) → SourcesRefused old.pool given (Options f)
+        → TellTheSame e f }
+    ensures sets { (old : Schema) (bytes : List ℕ) (e f : OptionError) → IsGrown old
+        → SetRefused old.pool bytes (Options e) → SetRefused old.pool bytes (Options f)
+        → TellTheSame e f }
 {}
 
 /// A source that makes a schema by which all options are read is not refused for a type of options
