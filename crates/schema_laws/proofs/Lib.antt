@@ -64,6 +64,7 @@ pub mod Sizes
 pub mod TakenOrRefused
 pub mod TakenOptions
 pub mod OneRefusal
+pub mod OneWay
 pub mod RequiredTypes
 pub mod Placed
 pub mod PlacedNames

@@ -25,7 +25,10 @@ not_told : (name z : List ℕ) (file : FileDescriptorProto) (e : ParseError) →
 not_told name z file parsed.Memory made told refused = told
 not_told name z file (parsed.Refused r) made told refused = not_refused name name z file r made refused
 
-pub taken_whole : (p q new : PoolType) (given : Sources) (e : ParseError) → AreSmall given → SourcesLinked p given new → SourcesRefused q given (Parse e) → ⊥
-taken_whole p q new given e small (files, are, linked) (i, s, before, at, read, told, refused, large) =
+pub files_whole : (q : PoolType) (given : Sources) (files : List FileDescriptorProto) (e : ParseError) → AreSmall given → AreFilesOf given files → SourcesRefused q given (Parse e) → ⊥
+files_whole q given files e small are (i, s, before, at, read, told, refused, large) =
     let here = read_at given files are small i s at in
     not_told s.0 s.1 here.1.0 e here.1.1 told (refused here.0)
+
+pub taken_whole : (p q new : PoolType) (given : Sources) (e : ParseError) → AreSmall given → SourcesLinked p given new → SourcesRefused q given (Parse e) → ⊥
+taken_whole p q new given e small (files, are, linked) refused = files_whole q given files e small are refused

@@ -14,11 +14,12 @@ use Rattle.reflect_codec.proofs.Parts.{one_fields}
 use Rattle.reflect_codec.proofs.Unique.{one_set}
 use Rattle.reflect_passes.specs.declared.error.DescriptorError.{DescriptorError}
 use Rattle.reflect_tables.specs.Types.{PoolType}
-use Rattle.schema_core.specs.Refusals.{FilesLinked, FilesRefused, IsPool, SetLinked, SetRefused, SourcesLinked, SourcesRefused}
+use Rattle.schema_core.specs.Refusals.{FilesFit, FilesLinked, FilesRefused, IsPool, SetLinked, SetRefused, SourcesLinked, SourcesRefused}
 use Rattle.schema_core.specs.declared.error.SchemaError.TheVariants.{Link}
 use Rattle.schema_core.specs.declared.schema.Schema.{Schema}
 use Rattle.schema_view.specs.Lawful.{AddsLawful, IsLawful}
 use Rattle.schema_view.proofs.Batches.{one_built}
+use Rattle.settled_view.specs.BuiltBut.{ChangesOptions}
 use Rattle.types_view.specs.Typed.{IsTyped}
 use Rattle.types_view.proofs.Settled.{typed_more}
 use Rattle.schema_laws.specs.Batches.{AreUnlawful}
@@ -40,10 +41,11 @@ many_alike : (p : PoolType) (fs gs : List FileDescriptorProto) → map file_view
 many_alike p fs gs same (w, of, many) =
     (w, of, subst (λ (n : ℕ). 2 ^ 31 ≤ entries_of p + n) (as_many (new_files w.indexes fs) (new_files w.indexes gs) (new_alike p w w of of fs gs same)) many)
 
--- of two lists of files of the same content not the one is linked and the other refused for it
-not_both : (earlier : List (List FileContent)) (old new : PoolType) (fs gs : List FileDescriptorProto) (e : DescriptorError) → IsTyped earlier old → IsPool old → IsPool new
-    → map file_view fs ≡ map file_view gs → FilesLinked old fs new → FilesRefused old gs (Link e) → ⊥
-not_both earlier old new fs gs e is was whole same (linked, (typed, copied, (adds, faultless, few)), settles, settled, bare) (others, ones, told, refused) =
+-- of two lists of files of the same content not the one fits, in a pool that may then be settled, and the other is refused
+-- for how it links
+pub fit_or_refused : (earlier : List (List FileContent)) (old linked new : PoolType) (fs gs : List FileDescriptorProto) (e : DescriptorError) → IsTyped earlier old → IsPool old → IsPool new
+    → map file_view fs ≡ map file_view gs → FilesFit old fs linked → ChangesOptions linked new → FilesRefused old gs (Link e) → ⊥
+fit_or_refused earlier old linked new fs gs e is was whole same (typed, copied, (adds, faultless, few)) changes (others, ones, told, refused) =
     elim (no_batch earlier old others e is.but was.kept told refused) [
       | inl many ↦ few (many_alike old others typed (sym alike) many)
       | inr unlawful ↦ lawful unlawful
@@ -54,12 +56,17 @@ not_both earlier old new fs gs e is was whole same (linked, (typed, copied, (add
 
     lawful : AreUnlawful is.but.linked old others → ⊥
     lawful (w, of, none) =
-        let m = typed_more earlier old linked new typed is whole faultless (record { settled = settled; bare = bare }) in
+        let m = typed_more earlier old linked new typed is whole faultless changes in
         let b = m.typed.but.built.built in
         let before : b.0 ≡ map file_view is.but.linked.records = one_built earlier b.0 (map file_view is.but.linked.records) b.1 is.but.built.built in
         let adds : AddsLawful (map file_view is.but.linked.records) (map file_view (new_files m.linking.indexes typed)) (map file_view m.typed.but.linked.records) =
         subst (λ fs. AddsLawful fs (map file_view (new_files m.linking.indexes typed)) (map file_view m.typed.but.linked.records)) before b.2 in
         none adds.0 (subst (λ batch. IsLawful (map file_view is.but.linked.records) batch adds.0) (new_alike old m.linking w m.of of typed others alike) adds.1)
+
+not_both : (earlier : List (List FileContent)) (old new : PoolType) (fs gs : List FileDescriptorProto) (e : DescriptorError) → IsTyped earlier old → IsPool old → IsPool new
+    → map file_view fs ≡ map file_view gs → FilesLinked old fs new → FilesRefused old gs (Link e) → ⊥
+not_both earlier old new fs gs e is was whole same (linked, fit, settles, settled, bare) refused =
+    fit_or_refused earlier old linked new fs gs e is was whole same fit (record { settled = settled; bare = bare }) refused
 
 -- ---- sources
 

@@ -11,7 +11,7 @@ ghost use Rattle.reflect_passes.specs.declared.error.DescriptorError.{Descriptor
 ghost use Rattle.reflect_pool.specs.Linked.{empty_pool};
 ghost use Rattle.reflect_tables.specs.Types.{PoolType};
 ghost use Rattle.reflect_wire.specs.declared.wire_error.WireError.{WireError};
-ghost use Rattle.schema_core.specs.Refusals.{AreSmall, IsPool, SetLinked, SetRefused};
+ghost use Rattle.schema_core.specs.Refusals.{AreSmall, IsNoSet, IsPool, SetLinked, SetRefused};
 ghost use Rattle.schema_core.specs.Refusals.{SourcesLinked, SourcesRefused};
 ghost use Rattle.schema_core.specs.declared.error.SchemaError.TheVariants.{Link, Options, Parse};
 ghost use Rattle.schema_core.specs.declared.error.SchemaError.TheVariants.{TooLong, Wire};
@@ -58,6 +58,31 @@ pub fn refusals_of_options_tell_the_same()
     ensures sets { (old : Schema) (bytes : List ℕ) (e f : OptionError) → IsGrown old
         → SetRefused old.pool bytes (Options e) → SetRefused old.pool bytes (Options f)
         → TellTheSame e f }
+{}
+
+/// Sources are refused in one way: where one of them is refused as such, each of fewer bytes than
+/// are too large, no schema refuses them for how they link, nor for their options; and a schema
+/// that refuses them for how they link does not refuse them for their options.
+pub fn sources_are_refused_in_one_way()
+    ensures links { (p q : PoolType) (given : Sources) (e : ParseError) (f : DescriptorError)
+        → AreSmall given → SourcesRefused p given (Parse e) → SourcesRefused q given (Link f) → ⊥ }
+    ensures options { (p q : PoolType) (given : Sources) (e : ParseError) (f : OptionError)
+        → AreSmall given → SourcesRefused p given (Parse e) → SourcesRefused q given (Options f)
+        → ⊥ }
+    ensures either { (old : Schema) (given : Sources) (e : DescriptorError) (f : OptionError)
+        → IsGrown old → SourcesRefused old.pool given (Link e)
+        → SourcesRefused old.pool given (Options f) → ⊥ }
+{}
+
+/// So are sets, whose bytes may be none.
+pub fn sets_are_refused_in_one_way()
+    ensures links { (p : PoolType) (bytes : List ℕ) (e : WireError) (f : DescriptorError)
+        → IsNoSet bytes e → SetRefused p bytes (Link f) → ⊥ }
+    ensures options { (p : PoolType) (bytes : List ℕ) (e : WireError) (f : OptionError)
+        → IsNoSet bytes e → SetRefused p bytes (Options f) → ⊥ }
+    ensures either { (old : Schema) (bytes : List ℕ) (e : DescriptorError) (f : OptionError)
+        → IsGrown old → SetRefused old.pool bytes (Link e)
+        → SetRefused old.pool bytes (Options f) → ⊥ }
 {}
 
 /// A source that makes a schema by which all options are read is not refused for a type of options
