@@ -1,26 +1,24 @@
 //! The program `schema`, over any files and any streams.
 
-ghost use Rattle.std.specs.Prelude.{◌≡◌, ◌⊎◌, IfErr, IfOk, OnErr, OnOk, Some, map, option_map};
-ghost use Rattle.std.specs.Io.KnownBytes.{Appends};
+ghost use Rattle.std.specs.Prelude.{◌≡◌, ◌⊎◌, IfErr, IfOk, OnOk, Some, map, option_map};
 ghost use Rattle.reflect_bytes.specs.Written.{pool_bytes};
-ghost use Rattle.reflect_schema.specs.Ends.{Ends};
+ghost use Rattle.reflect_schema.specs.Ends.{Ends, IsAnswered, IsRefused};
 ghost use Rattle.reflect_schema.specs.Runs.{AddsSet, AddsSources, Begins, MakesSchema, source_names};
 ghost use Rattle.reflect_schema.specs.Runs.{RefusesFirst, RefusesNamed, RefusesSchema, RefusesSet};
 ghost use Rattle.reflect_schema.specs.Statuses.{status_of};
-ghost use Rattle.reflect_schema.specs.Tasks.{DoesTask, RefusesTask};
 ghost use Rattle.reflect_schema.specs.Texts.{said};
 ghost use Rattle.reflect_schema.specs.declared.program.RunFault.TheVariants as run;
-ghost use Rattle.reflect_tables.specs.Types.{PoolType};
+ghost use Rattle.run_parts.specs.Streams.{Gets, between};
 ghost use Rattle.schema_core.specs.Serving.{shown};
 ghost use Rattle.schema_core.specs.declared.error.SchemaError.TheVariants.{Memory};
 ghost use Rattle.schema_core.specs.declared.payload.Fault.TheVariants as fault;
 
 use run_parts::{
-    FileFault, SourceFiles, read_file, read_sources, sources, tell_refusal, tell_usage, text_of,
+    FileFault, SourceFiles, read_file, read_sources, sources, tell_untyped, tell_usage, text_of,
     write_line,
 };
 use schema_core::{Fault, Schema, SchemaError, serve, write_bytes};
-use schema_words::{Request, Task, parse, requested, require_type};
+use schema_words::{Request, Task, parse, requested};
 use std::alloc::Global;
 use std::fmt;
 use std::io::{Read, Write};
@@ -168,7 +166,7 @@ fn write_set<W: Write>(
     is_hex: bool,
     output: &mut W,
 ) -> Result<(), RunFault>
-    ensures written { OnOk result (Appends (W.contents output.old) (W.contents output.new)
+    ensures written { OnOk result (Gets (between W.contents output.old output.new)
         (shown is_hex (pool_bytes schema.now.pool))) }
     ensures refused { IfErr result (λ e. (e ≡ run.Payload fault.Write)
         ⊎ (((e ≡ run.Schema Memory) ⊎ (e ≡ run.Payload fault.Memory))
@@ -192,18 +190,20 @@ pub fn answer<F: SourceFiles, R: Read, W: Write>(
     input: &mut R,
     output: &mut W,
 ) -> Result<(), RunFault>
-    ensures done { OnOk result ((p : PoolType)
-        × MakesSchema F.read_gives wanted.entry files.old p files.new
-        × DoesTask wanted.entry.task wanted.entry.is_hex p
-        (record { before = R.remaining input.old; behind = R.remaining input.new })
-        (record { before = W.contents output.old; behind = W.contents output.new })) }
-    ensures refused { IfErr result (λ e.
-        (RefusesSchema F.read_gives wanted.entry files.old e files.new
-        × (input.new ≡ input.old))
-        ⊎ ((p : PoolType) × MakesSchema F.read_gives wanted.entry files.old p files.new
-        × RefusesTask wanted.entry.task wanted.entry.is_hex p (R.remaining input.old) e)) }
-    ensures kept { IfErr result (λ e. (e ≡ run.Payload fault.Write)
-        ⊎ (output.new ≡ output.old)) }
+    ensures done { OnOk result (IsAnswered F.read_gives wanted.entry
+        (record {
+          before = files.old;
+          behind = files.new;
+          input = between R.remaining input.old input.new;
+          output = between W.contents output.old output.new;
+        })) }
+    ensures refused { IfErr result (IsRefused F.read_gives wanted.entry
+        (record {
+          before = files.old;
+          behind = files.new;
+          input = between R.remaining input.old input.new;
+          output = between W.contents output.old output.new;
+        })) }
 {
     let schema = read_schema(alloc, files, wanted)?;
     let is_hex = wanted.is_hex;
@@ -216,23 +216,14 @@ pub fn answer<F: SourceFiles, R: Read, W: Write>(
     }
 }
 
-/// Writes that a payload wants a type, and gives the status.
-fn tell_untyped<E: Write>(alloc: Global, words: &[&str], errors: &mut E) -> u8
-    ensures { (result ≡ 2) ⊎ (result ≡ 5) }
-{
-    match require_type(alloc, words) {
-        Ok(()) => 2,
-        Err(error) => tell_refusal(alloc, error, errors),
-    }
-}
-
 /// Runs the program `schema` on its words, without its own name, and gives the status that it ends
 /// with.
 ///
 /// 0: answered, or help was asked for. 1: the schema is refused, or a source is not UTF-8. 2: the
 /// command line is refused. 3: the payload is refused. 4: a file, the input or the output cannot be
 /// read or written. 5: memory ran out. Where the words ask for nothing that can be done, no file is
-/// read, nor any input. What is refused is told in a line to `errors`.
+/// read, nor any input. What is refused is told in a line to `errors`, of which a beginning is
+/// written where memory runs out for it or `errors` refuses more; nothing else is written there.
 pub fn run<F: SourceFiles, R: Read, W: Write, E: Write>(
     alloc: Global,
     words: &[&str],
@@ -243,10 +234,13 @@ pub fn run<F: SourceFiles, R: Read, W: Write, E: Write>(
 ) -> u8
     ensures { Ends F.read_gives (map (λ word. word.now) words.now)
         (record {
-          before = files.old;
-          behind = files.new;
-          input = record { before = R.remaining input.old; behind = R.remaining input.new };
-          output = record { before = W.contents output.old; behind = W.contents output.new };
+          work = record {
+            before = files.old;
+            behind = files.new;
+            input = between R.remaining input.old input.new;
+            output = between W.contents output.old output.new;
+          };
+          errors = between E.contents errors.old errors.new;
         }) result }
 {
     let matches = match parse(alloc, words) {

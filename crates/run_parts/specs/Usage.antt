@@ -1,6 +1,8 @@
 -- What is told of words that are not taken.
+use Rattle.std.specs.Prelude.{◌≡◌, ℕ}
 use Rattle.clap.specs.declared.error.kind.ErrorKind.{ErrorKind}
 use Rattle.clap.specs.declared.error.kind.ErrorKind.TheVariants as kind
+use Rattle.run_parts.specs.Statuses.{refusal_status}
 use Rattle.run_parts.specs.Streams.{GetsFront, GetsSome, IsLeft, Stream, line_of}
 use Rattle.run_parts.specs.Texts.{said}
 use Rattle.run_parts.specs.declared.files.FileFault.TheVariants as files
@@ -16,3 +18,7 @@ abbrev pub TellsUsage : {E : Type 0} → ErrorKind → Stream E → Type 0
 TellsUsage kind.DisplayHelp errors = IsLeft errors
 TellsUsage kind.DisplayVersion errors = IsLeft errors
 TellsUsage k errors = TellsRefusal k errors
+
+-- they get why the words are refused, with the status that says so
+abbrev pub TellsUntyped : {E : Type 0} → ℕ → Stream E → Type 0
+TellsUntyped status errors = (k : ErrorKind) × (status ≡ refusal_status k) × TellsRefusal k errors

@@ -5,4 +5,4 @@ mod files;
 mod lines;
 
 pub use files::{FileFault, ReadFault, SourceFiles, read_file, read_sources, sources, text_of};
-pub use lines::{tell_refusal, tell_usage, write_line};
+pub use lines::{tell_untyped, tell_usage, write_line};

@@ -4,10 +4,11 @@ ghost use Rattle.std.specs.Prelude.{◌≡◌, ◌⊎◌, IfSome, OnErr, OnOk};
 ghost use Rattle.clap.specs.Values.{kind_of};
 ghost use Rattle.run_parts.specs.Statuses.{IsShown, refusal_status, usage_status};
 ghost use Rattle.run_parts.specs.Streams.{Gets, GetsPart, GetsSome, between, line_of};
-ghost use Rattle.run_parts.specs.Usage.{TellsRefusal, TellsUsage};
+ghost use Rattle.run_parts.specs.Usage.{TellsRefusal, TellsUntyped, TellsUsage};
 
 use crate::files::FileFault;
 use clap::error::ErrorKind;
+use schema_words::require_type;
 use std::alloc::Global;
 use std::io::Write;
 use std::{fmt, io};
@@ -68,7 +69,7 @@ fn write_version<W: Write>(alloc: Global, stream: &mut W, version: clap::Error) 
 }
 
 /// Writes why the command line is refused, and gives the status: 5 where memory ran out, and else 2.
-pub fn tell_refusal<E: Write>(alloc: Global, error: clap::Error, errors: &mut E) -> u8
+fn tell_refusal<E: Write>(alloc: Global, error: clap::Error, errors: &mut E) -> u8
     ensures status { result ≡ refusal_status (kind_of error) }
     ensures told { TellsRefusal (kind_of error) (between E.contents errors.old errors.new) }
 {
@@ -106,5 +107,15 @@ pub fn tell_usage<W: Write, E: Write>(
             0
         }
         _ => tell_refusal(alloc, error, errors),
+    }
+}
+
+/// Writes that a payload wants a type, in the words of the command line, and gives the status.
+pub fn tell_untyped<E: Write>(alloc: Global, words: &[&str], errors: &mut E) -> u8
+    ensures { TellsUntyped result (between E.contents errors.old errors.new) }
+{
+    match require_type(alloc, words) {
+        Ok(()) => 2,
+        Err(error) => tell_refusal(alloc, error, errors),
     }
 }

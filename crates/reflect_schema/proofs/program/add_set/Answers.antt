@@ -1,4 +1,4 @@
-use Rattle.std.proofs.Common.{◌≡◌, List, ℕ, Bor, Option, option_map, subst, sym}
+use Rattle.std.proofs.Common.{List, ℕ, Bor, Option, option_map, subst, sym}
 use Rattle.reflect_schema.specs.Runs.{AddsSet}
 use Rattle.schema_core.specs.Refusals.{SetLinked}
 use Rattle.reflect_schema.proofs.program.add_set.Goals as goal
