@@ -42,8 +42,8 @@ OpensBlock p =
     (sees (ident (codes "message")) (p ∷ []) ≡ true)
     ⊎ (sees (ident (codes "group")) (p ∷ []) ≡ true)
 
--- One of these words among them is already the first token with which nothing goes on: behind it a
--- brace has to come, and as many are open as may be.
+-- One of these words among them is already the first token with which nothing goes on, as where a
+-- brace has to come behind it, and as many are open as may be.
 abbrev pub IsPast : {A : Type 0} → Parser A → Stream → Type 0
 IsPast p front =
     (before : Stream) × (word : Piece) × (between : Stream) × (front ≡ before ++ (word ∷ between))
@@ -79,8 +79,7 @@ IsToldAt Alive p ts (too_deep at) = Unit {0}
 abbrev pub TellsFirst : {A : Type 0} → Parser A → Type 0
 TellsFirst p = (ts : Stream) (f : Fault) → p ts ≡ Err f → IsToldAt (Begins p) p ts f
 
--- The same, where one of the words that open blocks may stand before, behind which none may be
--- opened.
+-- The same, or else one of the words that open blocks, among the tokens in front, is that first one.
 abbrev pub TellsFirstInBlocks : {A : Type 0} → Parser A → Type 0
 TellsFirstInBlocks p = (ts : Stream) (f : Fault) → p ts ≡ Err f
     → IsToldAt (λ front. Begins p front ⊎ IsPast p front) p ts f

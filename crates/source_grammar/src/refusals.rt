@@ -44,8 +44,8 @@ pub fn messages_are_refused_at_the_first_such_token()
 
 /// A file is refused at the first token with which no file goes on: the tokens before that one
 /// begin a file, and with that one they begin none; and all tokens of one that ends too early begin
-/// a file. Or else, where 31 braces are open, a word `message` or `group` before the fault is that
-/// token, since behind it one more would have to be opened.
+/// a file. Or else a word `message` or `group` before the fault is that token, as where 31 braces
+/// are open, since behind it one more has to be.
 pub fn files_are_refused_at_the_first_such_token()
     ensures { TellsFirstInBlocks file }
 {}
