@@ -1,5 +1,5 @@
 -- The steps that rules are made of, in both directions.
-use Rattle.std.proofs.Common.{◌≡◌, Bool, true, false, List, [], ◌∷◌, Option, Some, None, Ok, refl, ap, sym, subst, ◌∙◌, ◌⊎◌}
+use Rattle.std.proofs.Common.{◌≡◌, Bool, true, false, List, [], ◌∷◌, Option, Some, None, Ok, refl, ap, sym, subst, ◌∙◌}
 use Rattle.std.specs.Prelude.{if◌then◌else◌}
 use Rattle.std.proofs.lemmas.Slice.Eq.{bytes_eq-Decides}
 use denote.Enum.Bare.{same_true}
@@ -9,7 +9,7 @@ use Rattle.protox_lex.specs.declared.span.Span.{Span}
 use Rattle.protox_lex.specs.Token.{Token, ident, int, float, str, sign, comment}
 use Rattle.protox_tree.specs.Tree.{Word}
 use Rattle.protox_tokens.specs.Stream.{Piece, Stream, Seen, source, look}
-use Rattle.protox_tokens.specs.Parser.{◌>>=◌, ◌<$>◌, saw, sees, same, is, value_of, eaten, eat_in, eat, taken, one}
+use Rattle.protox_tokens.specs.Parser.{saw, sees, same, is, value_of, eaten, eat_in, eat, taken, one}
 use Rattle.protox_tokens.specs.Refusal.{Expected}
 use Rattle.std.specs.Prelude.{is_some}
 use Rattle.protox_tokens.specs.Marks.{Place, within, Mark, token, literal, IsIn, IsLiteral, FitsToken, FitsMark, SpellsMarks, spot, if_there, IsAny}

@@ -1,5 +1,5 @@
 -- What refusals tell, from what is read before them.
-use Rattle.std.proofs.Common.{◌≡◌, ◌∙◌, ◌-◌, inl, inr, ℕ, zero, suc, true, false, List, Option, Some, None, option_map, Result, Ok, Err, IfErr, IfOk, IsErrAnd, refl, sym, ap, subst}
+use Rattle.std.proofs.Common.{◌≡◌, ◌∙◌, inl, inr, ℕ, zero, suc, true, false, List, Option, Some, None, option_map, Result, Ok, Err, IfErr, IfOk, IsErrAnd, refl, sym, ap, subst}
 use Rattle.protobuf_model.specs.Types.{Scalar}
 use Rattle.protobuf_model.specs.Values.{Single}
 use Rattle.protox_lex.specs.Class.{Text}

@@ -1,5 +1,5 @@
 -- Maps, entry by entry.
-use Rattle.std.specs.Prelude.{◌≡◌, List, [], Option, None, Some}
+use Rattle.std.specs.Prelude.{List, [], Option, None, Some}
 use Rattle.std.specs.declared.cmp.Ordering.{Ordering}
 use Rattle.reflect_scalar.specs.contracts.map_key.MapKeyOrd.TheImpl.{ghosts}
 use Rattle.reflect_scalar.specs.declared.map_key.MapKey.{MapKey}

@@ -1,5 +1,5 @@
 -- Adjacent literals, one after the other.
-use Rattle.std.proofs.Common.{◌≡◌, ℕ, List, [], ◌∷◌, ◌++◌, None, refl, ◌∙◌}
+use Rattle.std.proofs.Common.{◌≡◌, ℕ, List, [], ◌∷◌, ◌++◌, None, refl}
 use Rattle.std.specs.List.{flat_map}
 use Rattle.protox_lex.specs.Class.{Text}
 use Rattle.protox_lex.specs.Lex.{unescaped}

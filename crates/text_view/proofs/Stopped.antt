@@ -1,6 +1,6 @@
 -- Of each oneof of a message of which a text is refused one member at most still holds anything; and but for want of memory
 -- the message holds what the fields before the fault give.
-use Rattle.std.proofs.Common.{◌≡◌, ◌≢◌, ◌⊎◌, ◌∙◌, inl, inr, ℕ, List, Option, Some, ap, sym, subst}
+use Rattle.std.proofs.Common.{◌≡◌, ◌≢◌, ◌∙◌, inl, inr, ℕ, List, Option, Some, ap, sym, subst}
 use Rattle.protox_lex.specs.Class.{Text}
 use Rattle.protobuf_model.specs.Types.{Name}
 use Rattle.protobuf_model.specs.Values.{Message}

@@ -1,4 +1,4 @@
-use Rattle.std.proofs.Common.{rules, ◌≡◌, ◌∙◌}
+use Rattle.std.proofs.Common.{rules}
 use Rattle.std.proofs.lemmas.Result.{err_from_is_err_and}
 use Rattle.descriptor_records.specs.Content.{option_view}
 use Rattle.option_setter.specs.SetOptions.{MayTake, RefusesLast, RefusesValue}
