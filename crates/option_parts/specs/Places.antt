@@ -1,5 +1,5 @@
 -- Where the faults of options stand.
-use Rattle.std.specs.Prelude.{◌≡◌, ◌≤◌, ℕ, List, Option, Some, option_map, slice_get}
+use Rattle.std.specs.Prelude.{◌≡◌, ◌≤◌, ℕ, List, Option, None, Some, option_map, slice_get}
 use Rattle.std.specs.Option.{option_and_then}
 use Rattle.descriptor_records.specs.declared.file.FileDescriptorProto.{FileDescriptorProto}
 use Rattle.reflect_faults.specs.Faults.{Place, place_of}
@@ -15,9 +15,11 @@ option_place e = option_map place_of e.place
 abbrev pub option_span : OptionError → Option SourceSpan
 option_span e = option_and_then (λ p. p.span) (option_place e)
 
--- a place in a file: the file's name, and of the path the span that the file's own locations tell
+-- a place in a file: the file's name, and of the path the span that the file's own locations tell;
+-- its bytes are not looked for
 abbrev pub IsPlaceIn : FileDescriptorProto → Place → Type 0
 IsPlaceIn f p = (p.file ≡ text_of f.name) × (p.span ≡ span_among (locations f) p.path)
+    × (p.bytes ≡ None)
 
 -- it is in one of the files from an index on
 abbrev pub StandsFrom : List FileDescriptorProto → ℕ → Place → Type 0

@@ -74,11 +74,13 @@ abbrev pub MayTake : Target → DynamicMessage → Type 0
 MayTake t m = (HoldsFloats (target_pool t) (target_type t) → ⊥)
     × (holds_many t ≡ false → is_set m t ≡ false)
 
--- why the last part is refused: it holds floating-point numbers, or has a value already; where it
--- may take one, the option says nothing to it
+-- why the last part is refused: it holds floating-point numbers; or else it has a value already;
+-- or it may take one, and the option says nothing to it
 abbrev pub RefusesLast : Target → OptionContent → DynamicMessage → OptionErrorKind → Type 0
 RefusesLast t o m (kinds.FloatOption name) = HoldsFloats (target_pool t) (target_type t)
-RefusesLast t o m (kinds.DuplicateOption name) = (holds_many t ≡ false) × (is_set m t ≡ true)
+RefusesLast t o m (kinds.DuplicateOption name) =
+    (HoldsFloats (target_pool t) (target_type t) → ⊥)
+    × (holds_many t ≡ false) × (is_set m t ≡ true)
 RefusesLast t o m e = MayTake t m × ((k : Kind) × OfKind t k × RefusesValue k o e)
 
 -- nothing stands under the number, and nothing else is changed

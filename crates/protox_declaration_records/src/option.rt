@@ -1,6 +1,6 @@
 //! The records of options.
 
-ghost use Rattle.std.specs.Prelude.{◌≡◌, ◌++◌, IfOk, OnOk, map, option_map};
+ghost use Rattle.std.specs.Prelude.{◌≡◌, IfOk, OnOk, map, option_map};
 ghost use Rattle.descriptor_records.specs.Content.{name_view, option_view, options_view};
 ghost use Rattle.protox_declaration_records.specs.OptionRecords as spec;
 

@@ -1,6 +1,6 @@
 //! The number at the front of a text.
 
-ghost use Rattle.std.specs.Prelude.{◌≡◌, ◌≢◌, ◌<◌, ◌≤◌, ◌+◌, length, slice_index, true, IfOk, IfErr};
+ghost use Rattle.std.specs.Prelude.{◌≡◌, ◌<◌, ◌≤◌, ◌+◌, length, slice_index, true, IfOk, IfErr};
 ghost use Rattle.protox_lex.specs.Lex as spec;
 ghost use Rattle.protox_lex.specs.Ascii.{IsAsciiTo};
 ghost use Rattle.protox_lex.specs.Shown.{Returns, piece_view};

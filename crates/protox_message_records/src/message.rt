@@ -1,6 +1,6 @@
 //! The records of messages, and of the types in them.
 
-ghost use Rattle.std.specs.Prelude.{◌≡◌, IfOk, OnOk, map};
+ghost use Rattle.std.specs.Prelude.{IfOk, OnOk, map};
 ghost use Rattle.std.specs.List.{flat_map};
 ghost use Rattle.descriptor_records.specs.Content.{message_view, messages_of};
 ghost use Rattle.protox_message_records.specs.MessageRecords as messages;

@@ -1,6 +1,6 @@
 //! The names that stand directly in a message.
 
-ghost use Rattle.std.specs.Prelude.{◌≡◌, ◌++◌, IfOk, OnOk, map};
+ghost use Rattle.std.specs.Prelude.{◌++◌, IfOk, OnOk, map};
 ghost use Rattle.descriptor_records.specs.Content as content;
 ghost use Rattle.protox_message_records.specs.SyntheticOneofs as synthetic;
 

@@ -1,6 +1,6 @@
 //! The oneofs of proto3 fields that are declared `optional`.
 
-ghost use Rattle.std.specs.Prelude.{◌≡◌, ◌∷◌, IfOk, map, string_bytes};
+ghost use Rattle.std.specs.Prelude.{◌∷◌, IfOk, map, string_bytes};
 ghost use Rattle.std.specs.List.{flat_map};
 ghost use Rattle.descriptor_records.specs.Content.{message_view, oneof_view};
 ghost use Rattle.protox_message_records.specs.MessageRecords.{alone_at};

@@ -1,7 +1,7 @@
 //! How the values of options print.
 
 ghost use Rattle.std.specs.Fmt.{WritesOnOk};
-ghost use Rattle.std.specs.Prelude.{◌≡◌, Some, map};
+ghost use Rattle.std.specs.Prelude.{Some, map};
 ghost use Rattle.protox_tree.specs.TreeTexts as texts;
 ghost use Rattle.protox_tree.specs.View.{literal_view, strings_view, value_view};
 

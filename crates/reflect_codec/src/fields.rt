@@ -1,5 +1,5 @@
 //! The fields of a record that is being read, and the readers of what they hold.
-ghost use Rattle.std.specs.Prelude.{◌≡◌, ◌≢◌, ℕ, ◌-◌, ◌++◌, List, IfOk, IfErr, IfSome, option_map, length, string_bytes, unsigned_abs};
+ghost use Rattle.std.specs.Prelude.{◌≡◌, ◌≢◌, ℕ, ◌-◌, List, IfOk, IfErr, IfSome, option_map, length, string_bytes, unsigned_abs};
 ghost use Rattle.std.specs.List.{AllZip};
 ghost use Rattle.reflect_wire.specs.Faults.{ValueFault, TellsTrue};
 ghost use Rattle.reflect_wire.specs.Reads.{ReadsBy};

@@ -1,7 +1,6 @@
 ghost use Rattle.std.specs.Prelude.{◌≡◌, IfOk};
-ghost use Rattle.reflect_entries.specs.Entries.{IsAscending};
-ghost use Rattle.reflect_message.specs.Held.{choices_of, extensions_of, fields_of, unknown_of};
-ghost use Rattle.reflect_copies.specs.Copies.{AreCopies};
+ghost use Rattle.reflect_message.specs.Contents.{content_of};
+ghost use Rattle.reflect_copies.specs.Copies.{IsCopy};
 ghost use Rattle.reflect_copies.specs.InOrder.{IsInOrder};
 ghost use Rattle.reflect_copies.specs.Trees.{held_tree};
 
@@ -20,19 +19,11 @@ pub trait CloneMessage: Sized {
     fn clone(&self) -> Result<Self, AllocError>
         ensures same_type { IfOk result
             (λ m. (message m).descriptor ≡ (message self.now).descriptor) }
-        ensures fields { IfOk result
-            (λ m. AreCopies (fields_of (message self.now)) (fields_of (message m))) }
-        ensures choices { IfOk result
-            (λ m. choices_of (message m) ≡ choices_of (message self.now)) }
+        ensures copied { IfOk result
+            (λ m. IsCopy (content_of (message self.now)) (content_of (message m))) }
         ensures content { IfOk result
             (λ m. held_tree (message m).held ≡ held_tree (message self.now).held) }
-        ensures extensions { IfOk result
-            (λ m. AreCopies (extensions_of (message self.now)) (extensions_of (message m))) }
-        ensures ascending { IfOk result (λ m. IsAscending (fields_of (message m))
-            × IsAscending (extensions_of (message m))) }
-        ensures in_order { IfOk result (λ m. IsInOrder (message m)) }
-        ensures unknown { IfOk result
-            (λ m. unknown_of (message m) ≡ unknown_of (message self.now)) };
+        ensures in_order { IfOk result (λ m. IsInOrder (message m)) };
 }
 
 impl CloneMessage for DynamicMessage<'_> {

@@ -1,5 +1,6 @@
 ghost use Rattle.std.specs.Prelude.{◌≡◌, ◌++◌, ◌∷◌, [], ◌↔◌, IsTrue, IfOk, OnOk, IfSome, map, Option, Some, None};
 ghost use Rattle.std.proofs.Props.{props};
+ghost use Rattle.reflect_declarations.specs.Declarations.{entry};
 ghost use Rattle.reflect_faults.specs.Spans.{locations, locations_at, span_among};
 
 use crate::error::DescriptorErrorKind;
@@ -7,6 +8,7 @@ use crate::label::{Label, SourceSpan};
 use crate::spans::FileSpans;
 use descriptor_records::{FileDescriptorProto, Location, join_path, text_of};
 use reflect_scope::FileIndex;
+use reflect_walk::{VisitError, entry_path};
 use std::alloc::{AllocError, Global};
 
 /// The faults of one pass over new files, in the order in which they were met.
@@ -127,6 +129,25 @@ impl<'a> Faults<'a> {
     {
         let path = join_path(alloc, path, &[tag])?;
         self.label(alloc, file, path.as_slice())
+    }
+
+    /// The place of the field of the number `field` of the entry at a place of the list that is the
+    /// field of the number `tag` of the record at `path`. `TooMany` is an entry past `i32::MAX`.
+    pub fn entry_label(
+        &mut self,
+        alloc: Global,
+        file: FileIndex,
+        path: &[i32],
+        tag: i32,
+        place: usize,
+        field: i32,
+    ) -> Result<Label, VisitError>
+        ensures place { IfOk result (λ l. place_of l
+            ≡ place_at self.old file (entry path.now tag place ++ (field ∷ []))) }
+        ensures same { Adds self.old self.new [] }
+    {
+        let at = entry_path(alloc, path, tag, place)?;
+        Ok(self.label_at(alloc, file, at.as_slice(), field)?)
     }
 
     /// Adds a fault behind the others.

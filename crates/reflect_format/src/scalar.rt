@@ -5,7 +5,7 @@ ghost use Rattle.protobuf_model.specs.Values.{enumerated};
 ghost use Rattle.reflect_format.specs.Enums.{number_named};
 ghost use Rattle.reflect_format.specs.Kinds.{ReadsSingle, RefusesEnum, RefusesKind, kind_value_at};
 ghost use Rattle.reflect_format.specs.Refusals.{RefusesScalar, RefusesValue};
-ghost use Rattle.std.specs.Prelude.{◌≡◌, ◌<◌, IfErr, IfOk};
+ghost use Rattle.std.specs.Prelude.{◌<◌, IfErr, IfOk};
 ghost use Rattle.text_scalars.specs.Left.{left};
 ghost use Rattle.text_scalars.specs.Remaining.{remaining};
 ghost use Rattle.text_scalars.specs.Scalars.{ReadsValue, value_at};

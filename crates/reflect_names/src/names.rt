@@ -1,4 +1,4 @@
-ghost use Rattle.std.specs.Prelude.{◌≡◌, ◌<◌, ◌≤◌, OnOk, [], is_some};
+ghost use Rattle.std.specs.Prelude.{◌≡◌, ◌<◌, OnOk, [], is_some};
 ghost use Rattle.reflect_scope.specs.Means.{scopes};
 ghost use Rattle.reflect_scope.specs.Known.{known_of, declared, may_repeat as repeats};
 ghost use Rattle.reflect_faults.specs.Faults.{Adds, place_at};

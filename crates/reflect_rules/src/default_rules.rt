@@ -1,6 +1,6 @@
 //! The rules of fields' defaults.
 
-ghost use Rattle.std.specs.Prelude.{◌≡◌, OnOk};
+ghost use Rattle.std.specs.Prelude.{OnOk};
 ghost use Rattle.reflect_faults.specs.Faults.{Adds, place_at};
 ghost use Rattle.reflect_defaults.specs.Defaults.{IsScalarSuited};
 ghost use Rattle.reflect_rules.specs.Rules.{IsSuited, IsDefaultOf, default_faults};

@@ -4,7 +4,7 @@ ghost use Rattle.std.specs.Prelude.{◌≡◌, OnOk, IfOk, map};
 ghost use Rattle.reflect_faults.specs.Faults.{Adds, place_at};
 ghost use Rattle.reflect_rules.specs.EnumRules.{allows_aliases as may_alias, alias_faults, first_faults, enum_faults};
 
-use crate::repeats::{Numbered, entry_label, list_repeats};
+use crate::repeats::{Numbered, list_repeats};
 use descriptor_records::{EnumDescriptorProto, EnumValueDescriptorProto, tag};
 use reflect_faults::{DescriptorErrorKind, Faults};
 use reflect_scope::FileIndex;
@@ -74,7 +74,7 @@ fn check_first(
 {
     if is_proto3 && number != Some(0) {
         let (list, field) = (tag::enumeration::VALUE, tag::enum_value::NUMBER);
-        let found = entry_label(alloc, faults, file, path, list, 0, field)?;
+        let found = faults.entry_label(alloc, file, path, list, 0, field)?;
         faults.push(DescriptorErrorKind::InvalidProto3EnumDefault { found })?;
     }
     Ok(())

@@ -1,6 +1,6 @@
 //! The rules of the numbers of extensions (protobuf.dev, "Extensions").
 
-ghost use Rattle.std.specs.Prelude.{◌≡◌, List, OnOk};
+ghost use Rattle.std.specs.Prelude.{List, OnOk};
 ghost use Rattle.reflect_faults.specs.Faults.{Fault, Adds, place_at};
 ghost use Rattle.reflect_rules.specs.Rules.{message_of, ExtensionNumber};
 

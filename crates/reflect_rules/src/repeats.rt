@@ -1,8 +1,7 @@
 //! Numbers that an earlier entry of their list has (protobuf.dev, "Assigning Field Numbers", "Enum
 //! Value Aliases").
 
-ghost use Rattle.std.specs.Prelude.{◌≡◌, ◌∷◌, ◌++◌, [], OnOk, IfOk};
-ghost use Rattle.reflect_declarations.specs.Declarations.{entry};
+ghost use Rattle.std.specs.Prelude.{◌≡◌, OnOk, IfOk};
 ghost use Rattle.reflect_faults.specs.Faults.{Adds, fault_view, place_at, place_of};
 ghost use Rattle.reflect_rules.specs.Repeats.{repeats, repeat_fault, repeat_faults};
 ghost use Rattle.reflect_rules.specs.Numbered.{fault_of, list_tag, number_tag};
@@ -10,7 +9,7 @@ ghost use Rattle.reflect_rules.specs.Numbered.{fault_of, list_tag, number_tag};
 use descriptor_records::tag;
 use reflect_faults::{DescriptorErrorKind, Faults, Label};
 use reflect_scope::FileIndex;
-use reflect_walk::{VisitError, entry_path};
+use reflect_walk::VisitError;
 use std::alloc::{AllocError, Global};
 use std::collections::BTreeSet;
 
@@ -69,25 +68,6 @@ fn repeated(alloc: Global, numbers: &[Option<i32>]) -> Result<Vec<(usize, i32)>,
     Ok(repeated)
 }
 
-/// The place of the field of the number `field` of a list's entry. The list of faults stays as it
-/// is. `TooMany` is an entry past `i32::MAX`.
-pub fn entry_label(
-    alloc: Global,
-    faults: &mut Faults<'_>,
-    file: FileIndex,
-    path: &[i32],
-    tag: i32,
-    place: usize,
-    field: i32,
-) -> Result<Label, VisitError>
-    ensures place { IfOk result (λ l. place_of l
-        ≡ place_at faults.old file (entry path.now tag place ++ (field ∷ []))) }
-    ensures same { Adds faults.old faults.new [] }
-{
-    let at = entry_path(alloc, path, tag, place)?;
-    Ok(faults.label_at(alloc, file, at.as_slice(), field)?)
-}
-
 /// Lists that the entry at a place has a number that an earlier entry has.
 fn list_repeat(
     alloc: Global,
@@ -102,7 +82,7 @@ fn list_repeat(
         (repeat_fault (fault_of what) (list_tag what) (number_tag what) path.now
         (place_at faults.old file) (place, number))) }
 {
-    let found = entry_label(alloc, faults, file, path, what.list(), place, what.number())?;
+    let found = faults.entry_label(alloc, file, path, what.list(), place, what.number())?;
     faults.push(what.fault(number, found))?;
     Ok(())
 }

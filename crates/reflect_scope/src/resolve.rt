@@ -1,4 +1,4 @@
-ghost use Rattle.std.specs.Prelude.{◌≡◌, ◌+◌, ◌<◌, ◌≤◌, IfOk, OnOk, string_bytes, false};
+ghost use Rattle.std.specs.Prelude.{◌≡◌, ◌<◌, IfOk, OnOk, string_bytes, false};
 ghost use Rattle.reflect_scope.specs.Known.{known_of};
 ghost use Rattle.reflect_scope.specs.Seen.{tells};
 ghost use Rattle.reflect_scope.specs.Says.{NameMeans, AnswersMeaning};

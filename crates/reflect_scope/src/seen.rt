@@ -1,4 +1,4 @@
-ghost use Rattle.std.specs.Prelude.{◌≡◌, ℕ, ◌+◌, ◌<◌, ◌≤◌, ◌↔◌, [], ◌++◌, length, OnOk, IsTrue, true, false, slice_index_or, slice_set};
+ghost use Rattle.std.specs.Prelude.{◌≡◌, ℕ, ◌+◌, ◌<◌, ◌≤◌, ◌↔◌, [], length, OnOk, IsTrue, true, false, slice_index_or, slice_set};
 ghost use Rattle.std.specs.List.{Contains};
 ghost use Rattle.reflect_scope.specs.Sees.{Sees, imports_at, publics_at};
 ghost use Rattle.reflect_scope.specs.Marks.{IsMarked, Extends, AreListed, AllClear};

@@ -1,7 +1,7 @@
 //! Parts that have no parts: the fields and oneofs of messages, the values of enums and the methods
 //! of services.
 
-ghost use Rattle.std.specs.Prelude.{◌≡◌, ℕ, ℤ, ◌<◌, ◌^◌, List, OnOk};
+ghost use Rattle.std.specs.Prelude.{ℕ, ℤ, ◌<◌, ◌^◌, List, OnOk};
 ghost use Rattle.reflect_declarations.specs.Declarations.{Declaration, Runs, each, one_field, one_oneof, one_value, one_method};
 
 use crate::place::{Place, list_index};

@@ -1,5 +1,5 @@
 //! Readers: each takes bytes and gives the value at their front and the bytes behind it.
-ghost use Rattle.std.specs.Prelude.{◌≡◌, ◌<◌, ◌≤◌, ◌+◌, ◌*◌, ◌%◌, ◌^◌, IfErr, IfSome};
+ghost use Rattle.std.specs.Prelude.{◌≡◌, ◌<◌, ◌+◌, ◌*◌, ◌%◌, ◌^◌, IfErr, IfSome};
 ghost use Rattle.reflect_wire.specs.Faults.{VarintFault, KeyFault, DelimitedFault, FixedFault};
 ghost use Rattle.reflect_wire.specs.Reads.{Fronts, ReadsFront, ReadsBy};
 ghost use Rattle.reflect_wire.specs.Varint.{IsVarintWithin, IsVarint};

@@ -17,6 +17,9 @@ use std::{fmt, io};
 ///
 /// A write that is interrupted is tried again. A stream that takes no byte refuses, and so does one
 /// that was written to as often as a 64-bit number counts.
+//
+// (the standard library's `write_all` does so too, but does not tell that what a refused call has
+// written is a beginning of the bytes)
 fn write_pieces<W: Write>(stream: &mut W, bytes: &[u8]) -> io::Result<()>
     ensures whole { OnOk result (Gets (between W.contents stream.old stream.new) bytes.now) }
     ensures part { OnErr result (GetsPart (between W.contents stream.old stream.new) bytes.now) }
@@ -43,8 +46,8 @@ fn write_pieces<W: Write>(stream: &mut W, bytes: &[u8]) -> io::Result<()>
 
 /// Writes a text to a stream, with a line end; a stream that refuses some of it gets no more.
 ///
-/// `Ok` exactly where all of the line is written. An error tells as well that memory ran out, and
-/// then nothing is written.
+/// `Ok` where all of the line is written, else a beginning of it is: nothing where memory ran out,
+/// which is an error too.
 pub fn write_line<W: Write, D: fmt::Display + Drop>(
     alloc: Global,
     stream: &mut W,

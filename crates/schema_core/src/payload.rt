@@ -1,6 +1,6 @@
 //! One payload: read, translated, written.
 
-ghost use Rattle.std.specs.Prelude.{◌≡◌, ◌≢◌, ◌⊎◌, true, false, ◌∷◌, ◌++◌, ◌-◌, ◌≤◌, [], ℕ, List, length, slice_index, IfOk, IfErr, IfSome, OnOk, string_bytes, IsUtf8, Ok, Some};
+ghost use Rattle.std.specs.Prelude.{◌≡◌, ◌⊎◌, true, false, ◌∷◌, ◌++◌, ◌-◌, [], ℕ, List, length, slice_index, IfOk, IfErr, IfSome, OnOk, string_bytes, IsUtf8, Ok, Some};
 ghost use Rattle.std.specs.List.{AllPass};
 ghost use Rattle.std.specs.Io.KnownBytes.{Appends, IsAtEnd};
 ghost use Rattle.hex.specs.Hex.{decode_of};

@@ -145,7 +145,7 @@ module _ (a b : DynamicMessage) (twins : AreTwins a b) (x y : Target) (same : (t
 
       not_last : (e : OptionErrorKind) → RefusesLast x o a e → ⊥
       not_last (kinds.FloatOption name) floats = whole floats
-      not_last (kinds.DuplicateOption name) (single, set) = set_already single set sets.put.4
+      not_last (kinds.DuplicateOption name) (free, single, set) = set_already single set sets.put.4
       not_last e (may, (k, of, refuses)) = not_said k of e refuses
 
     -- ---- a part before the last

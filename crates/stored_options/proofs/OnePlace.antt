@@ -32,7 +32,6 @@ use Rattle.stored_options.proofs.RefusedFiles.{Own, entity_refused, file_refused
 use Rattle.stored_options.proofs.RefusedReworded.{refused_same}
 use Rattle.stored_options.proofs.SameScopes.{entity_alike}
 use Rattle.stored_options.proofs.TwinPools.{AreTwinPools, twins_back, twins_moved}
-use Rattle.stored_options.specs.ToldAlike.{unlooked}
 
 -- ---- names and spans of files of one content
 
@@ -199,6 +198,7 @@ module _ (p q : PoolType) (w : TwinFiles p q) where
     pub entity : AtOneEntity p q at.path on.path e k
     pub file : at.file ≡ on.file
     pub span : at.path ≡ on.path → at.span ≡ on.span
+    pub bytes : at.bytes ≡ on.bytes
 
   pub one_place : (first : ℕ) (at on : Place) (e k : OptionErrorKind) → RefusesAtPlace p first at e → RefusesAtPlace q first on k → AtOnePlace at on e k
   one_place first at on e k (n, es, f, before, there, refuses, placed) (m, fs, g, ahead, has, also, put) = by (cases_order n m) where
@@ -218,6 +218,7 @@ module _ (p q : PoolType) (w : TwinFiles p q) where
           entity = one_in_file p q w (first + n) f g content at.path on.path e k refuses (subst (λ i. RefusesFile q (first + i) g on.path k) (sym one) also);
           file = placed.0 ∙ name_same f g content ∙ sym put.0;
           span = λ way. placed.1 ∙ span_same f g content at.path ∙ ap (span_among (locations g)) way ∙ sym put.1;
+          bytes = placed.2 ∙ sym put.2;
         }
     by (inr (inl less)) =
         let settled = file_settled p q w.whole w.whole_too w.twins w.same w.can w.can_too first m n fs in_second.0 less in_second.1 ahead in
@@ -227,12 +228,12 @@ module _ (p q : PoolType) (w : TwinFiles p q) where
         let settled = file_settled q p v.whole v.whole_too v.twins v.same v.can v.can_too first n m es in_first.0 more in_first.1 before in
         absurd (file_refused q p v.whole v.whole_too v.twins v.same v.can v.can_too (first + m) g in_first.0 (sym in_first.2) on.path k settled.0 also settled.1)
 
-  place_is : (first : ℕ) (at on : Place) (e k : OptionErrorKind) → RefusesAtPlace p first at e → RefusesAtPlace q first on k → unlooked at ≡ unlooked on
+  place_is : (first : ℕ) (at on : Place) (e k : OptionErrorKind) → RefusesAtPlace p first at e → RefusesAtPlace q first on k → at ≡ on
   place_is first at on e k refuses also =
       let one : AtOnePlace at on e k = one_place first at on e k refuses also in
       let path : at.path ≡ on.path = one_path at.path on.path e k (one_record at.path on.path e k one.entity) in
       let span : at.span ≡ on.span = one.span path in
-      λ i. record { file = one.file i; path = path i; span = span i; bytes = None }
+      λ i. record { file = one.file i; path = path i; span = span i; bytes = one.bytes i }
 
 -- ---- pools
 
@@ -240,7 +241,7 @@ module _ (p q : PoolType) (w : TwinFiles p q) where
 -- type of options
 pub one_place_told : (p q : PoolType) → IsPool p → IsPool q → AreTwinPools p q → map file_view p.records ≡ map file_view q.records
     → ((scope : OptionScope) → CanRead p scope → CanRead q scope) → ((scope : OptionScope) → CanRead q scope → CanRead p scope)
-    → (first : ℕ) (place other : Option Place) (e k : OptionErrorKind) → RefusesFrom p first place e → RefusesFrom q first other k → option_map unlooked place ≡ option_map unlooked other
+    → (first : ℕ) (place other : Option Place) (e k : OptionErrorKind) → RefusesFrom p first place e → RefusesFrom q first other k → place ≡ other
 one_place_told p q whole whole_too twins same to back first None None e k refuses also = refl
 one_place_told p q whole whole_too twins same to back first None (Some on) e k (n, tells, fails, before) (can, also) = absurd (fails (back (scope_at n) (can (scope_at n))))
 one_place_told p q whole whole_too twins same to back first (Some at) None e k (can, refuses) (n, tells, fails, before) = absurd (fails (to (scope_at n) (can (scope_at n))))

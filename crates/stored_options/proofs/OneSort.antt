@@ -43,7 +43,7 @@ use Rattle.stored_options.proofs.SetTwice.{AreTwins, messages_back, twins_inside
 use Rattle.stored_options.proofs.TwinFields.{field_same, map_same}
 use Rattle.stored_options.proofs.TwinKinds.{message_too}
 use Rattle.stored_options.proofs.TwinPools.{AreTwinPools, twins_back}
-use Rattle.stored_options.specs.ToldAlike.{no_message, sort_of, takes_none, unsuited}
+use Rattle.stored_options.specs.ToldAlike.{floating, no_message, set_already, sort_of, unsuited}
 
 -- ---- what an option says to a kind
 
@@ -119,24 +119,27 @@ one_value a b x y w o k l of of_too e f refuses also = by (value_sort k o e refu
 
 -- ---- the last part of a name
 
--- a target takes no value
-abbrev TakesNone : Target → DynamicMessage → Type 0
-TakesNone t m = HoldsFloats (target_pool t) (target_type t) ⊎ ((holds_many t ≡ false) × (is_set m t ≡ true))
+-- a target has a value already
+abbrev IsTaken : Target → DynamicMessage → Type 0
+IsTaken t m = (HoldsFloats (target_pool t) (target_type t) → ⊥) × (holds_many t ≡ false) × (is_set m t ≡ true)
 
 abbrev TakesOther : Target → OptionContent → DynamicMessage → OptionErrorKind → Type 0
 TakesOther t o m e = MayTake t m × ((k : Kind) × OfKind t k × RefusesValue k o e)
 
-last_sort : (t : Target) (o : OptionContent) (m : DynamicMessage) (e : OptionErrorKind) → RefusesLast t o m e → ((sort_of e ≡ takes_none) × TakesNone t m) ⊎ TakesOther t o m e
-last_sort t o m (kinds.FloatOption name) refuses = inl (refl, inl refuses)
-last_sort t o m (kinds.DuplicateOption name) refuses = inl (refl, inr refuses)
-last_sort t o m e refuses = inr refuses
+-- it holds floating-point numbers, or is taken, or the option says nothing to it
+abbrev LastSort : Target → OptionContent → DynamicMessage → OptionErrorKind → Type 0
+LastSort t o m e = ((sort_of e ≡ floating) × HoldsFloats (target_pool t) (target_type t)) ⊎ (((sort_of e ≡ set_already) × IsTaken t m) ⊎ TakesOther t o m e)
+
+last_sort : (t : Target) (o : OptionContent) (m : DynamicMessage) (e : OptionErrorKind) → RefusesLast t o m e → LastSort t o m e
+last_sort t o m (kinds.FloatOption name) refuses = inl (refl, refuses)
+last_sort t o m (kinds.DuplicateOption name) refuses = inr (inl (refl, refuses))
+last_sort t o m e refuses = inr (inr refuses)
 
 module _ (s t : NameScope) (alike : NameAlike s t) where
-  -- what the one may take the other does
-  not_takes_none : (a b : DynamicMessage) → AreTwins a b → (levels : ℕ) → Exclusive (suc (suc levels)) a → Exclusive (suc (suc levels)) b → (part : NamePart) (x y : Target)
-      → NamesTarget s a.descriptor part x → NamesTarget t b.descriptor part y → TakesNone x a → MayTake y b → ⊥
-  not_takes_none a b twins levels one two part x y named also (inl floats) (whole, free) = first_whole s t alike a b twins part x y named also whole floats
-  not_takes_none a b twins levels one two part x y named also (inr (single, set)) (whole, free) =
+  -- what is taken in the one may take nothing in the other
+  not_taken : (a b : DynamicMessage) → AreTwins a b → (levels : ℕ) → Exclusive (suc (suc levels)) a → Exclusive (suc (suc levels)) b → (part : NamePart) (x y : Target)
+      → NamesTarget s a.descriptor part x → NamesTarget t b.descriptor part y → IsTaken x a → MayTake y b → ⊥
+  not_taken a b twins levels one two part x y named also (mine, single, set) (whole, free) =
       let same : (target_type x).number ≡ (target_type y).number = same_target s t alike a b twins part x y named also whole in
       let owns : OwnsTarget a.descriptor x = owns_first s t alike a b twins part x y named also whole in
       let too : OwnsTarget b.descriptor y = owns_second s t alike a b twins part x y named also whole in
@@ -146,11 +149,23 @@ module _ (s t : NameScope) (alike : NameAlike s t) (back : NameAlike t s) (o : O
   one_last : (a b : DynamicMessage) → AreTwins a b → (levels : ℕ) → Exclusive (suc (suc levels)) a → Exclusive (suc (suc levels)) b → (part : NamePart) (x y : Target)
       → NamesTarget s a.descriptor part x → NamesTarget t b.descriptor part y → (e f : OptionErrorKind) → RefusesLast x o a e → RefusesLast y o b f → sort_of e ≡ sort_of f
   one_last a b twins levels one two part x y named also e f refuses refused = by (last_sort x o a e refuses) (last_sort y o b f refused) where
-    by : ((sort_of e ≡ takes_none) × TakesNone x a) ⊎ TakesOther x o a e → ((sort_of f ≡ takes_none) × TakesNone y b) ⊎ TakesOther y o b f → sort_of e ≡ sort_of f
-    by (inl h) (inl j) = h.0 ∙ sym j.0
-    by (inl h) (inr (may, rest)) = absurd (not_takes_none s t alike a b twins levels one two part x y named also h.1 may)
-    by (inr (may, rest)) (inl j) = absurd (not_takes_none t s back b a (messages_back a b twins) levels two one part y x also named j.1 may)
-    by (inr (may, (k, of, why))) (inr (may_too, (l, of_too, why_too))) =
+    -- it holds floating-point numbers in both or in neither
+    whole_first : HoldsFloats (target_pool x) (target_type x) → (HoldsFloats (target_pool y) (target_type y) → ⊥) → ⊥
+    whole_first floats whole = first_whole s t alike a b twins part x y named also whole floats
+
+    whole_second : HoldsFloats (target_pool y) (target_type y) → (HoldsFloats (target_pool x) (target_type x) → ⊥) → ⊥
+    whole_second floats whole = first_whole t s back b a (messages_back a b twins) part y x also named whole floats
+
+    by : LastSort x o a e → LastSort y o b f → sort_of e ≡ sort_of f
+    by (inl (is, floats)) (inl (is_too, floats_too)) = is ∙ sym is_too
+    by (inl (is, floats)) (inr (inl (is_too, (whole, single, set)))) = absurd (whole_first floats whole)
+    by (inl (is, floats)) (inr (inr ((whole, free), rest))) = absurd (whole_first floats whole)
+    by (inr (inl (is, (whole, single, set)))) (inl (is_too, floats)) = absurd (whole_second floats whole)
+    by (inr (inl (is, taken))) (inr (inl (is_too, taken_too))) = is ∙ sym is_too
+    by (inr (inl (is, taken))) (inr (inr (may, rest))) = absurd (not_taken s t alike a b twins levels one two part x y named also taken may)
+    by (inr (inr ((whole, free), rest))) (inl (is_too, floats)) = absurd (whole_second floats whole)
+    by (inr (inr (may, rest))) (inr (inl (is_too, taken))) = absurd (not_taken t s back b a (messages_back a b twins) levels two one part y x also named taken may)
+    by (inr (inr (may, (k, of, why)))) (inr (inr (may_too, (l, of_too, why_too)))) =
         one_value a b x y (record {
           twins = twins;
           same = same_target s t alike a b twins part x y named also may_too.0;

@@ -1,12 +1,10 @@
--- What two refusals of options tell alike: where the fault stands, of what sort it is, and the name
--- of the option. Of several faults of the same bytes, or of the same text in braces, it is left
--- open which is told.
+-- What two refusals of options tell alike: of what sort the fault is, and the name of the option. Of
+-- several faults of the same bytes, or of the same text in braces, it is left open which is told.
 use Rattle.std.specs.Prelude.{◌≡◌, None, Some, string_bytes}
 use Rattle.option_parts.specs.declared.option_error.OptionErrorKind.{OptionErrorKind}
 use Rattle.option_parts.specs.declared.option_error.OptionErrorKind.TheVariants as kinds
 use Rattle.option_setter.specs.WrittenNames.{name_told}
 use Rattle.protox_lex.specs.Class.{Text}
-use Rattle.reflect_faults.specs.Faults.{Place}
 
 -- of an option: there is none of the name, or one of another message; it does not take the value,
 -- or the text in its braces is no message; it holds floating-point numbers, or is set already; no
@@ -17,7 +15,8 @@ pub data Sort : Type 0 where
   extends_another : Sort
   unsuited : Sort
   no_message : Sort
-  takes_none : Sort
+  floating : Sort
+  set_already : Sort
   forbidden : Sort
   unread : Sort
   contradicting : Sort
@@ -30,8 +29,8 @@ sort_of (kinds.OptionNotFound name) = not_found
 sort_of (kinds.InvalidOptionType name) = unsuited
 sort_of (kinds.InvalidOptionExtendee name) = extends_another
 sort_of (kinds.InvalidMessageOption name e) = no_message
-sort_of (kinds.DuplicateOption name) = takes_none
-sort_of (kinds.FloatOption name) = takes_none
+sort_of (kinds.DuplicateOption name) = set_already
+sort_of (kinds.FloatOption name) = floating
 sort_of kinds.OptionTooDeep = unread
 sort_of (kinds.ForbiddenOption name) = forbidden
 sort_of kinds.NoDescriptorProto = no_type
@@ -43,7 +42,3 @@ sort_of kinds.Memory = want_of_memory
 pub record TellAlike (e f : OptionErrorKind) : Type 0 where
   pub sort : sort_of e ≡ sort_of f
   pub option : name_told e ≡ name_told f
-
--- the bytes of a place are not looked for where options are refused
-abbrev pub unlooked : Place → Place
-unlooked p = record p { bytes = None }

@@ -1,5 +1,5 @@
 //! Laws of options that are refused, each the contract of a function that does nothing.
-ghost use Rattle.std.specs.Prelude.{◌≡◌, ℕ, ℤ, List, Option, Some, map, option_map};
+ghost use Rattle.std.specs.Prelude.{◌≡◌, ℕ, ℤ, List, Option, Some, map};
 ghost use Rattle.descriptor_records.specs.Content.{FileContent, OptionsContent, file_view};
 ghost use Rattle.descriptor_records.specs.declared.options.Options.{Options};
 ghost use Rattle.message_view.specs.Sound.{IsSound};
@@ -11,7 +11,7 @@ ghost use Rattle.reflect_faults.specs.Faults.{Place};
 ghost use Rattle.reflect_options.specs.Settled.{RefusesOptions, Settles, StayAsTheyAre};
 ghost use Rattle.reflect_options.specs.Settling.{RefusesFrom, SettlesPool};
 ghost use Rattle.reflect_tables.specs.Types.{PoolType};
-ghost use Rattle.stored_options.specs.ToldAlike.{TellAlike, unlooked};
+ghost use Rattle.stored_options.specs.ToldAlike.{TellAlike};
 ghost use Rattle.types_view.specs.Pools.{IsPool};
 ghost use Rattle.types_view.specs.Typed.{IsTyped};
 
@@ -49,19 +49,19 @@ pub fn refused_files_are_not_settled_in_another_pool()
 {}
 
 /// Files are refused at one place for their options: of two refusals that are true of the files of
-/// a pool from an index on, both tell the same file, path and span, or both none; so it is however
-/// the same files are linked, where both tell a place.
+/// a pool from an index on, both tell the same place, or both none; so it is however the same
+/// files are linked, where both tell a place.
 pub fn refusals_of_files_are_at_one_place()
     ensures once { (pool : PoolType) (first : ℕ) (place other : Option Place)
         (e f : OptionErrorKind) → IsPool pool → IsSound pool → RefusesFrom pool first place e
-        → RefusesFrom pool first other f → option_map unlooked place ≡ option_map unlooked other }
+        → RefusesFrom pool first other f → place ≡ other }
     ensures twice { (batches : List (List FileContent)) (pool again : PoolType) (first : ℕ)
         (place other : Place) (e f : OptionErrorKind)
         → IsTyped batches pool → IsTyped batches again
         → IsPool pool → IsPool again → IsSound pool → IsSound again
         → map file_view pool.records ≡ map file_view again.records
         → RefusesFrom pool first (Some place) e → RefusesFrom again first (Some other) f
-        → unlooked place ≡ unlooked other }
+        → place ≡ other }
 {}
 
 /// And they tell a fault of one sort, of an option of one name.
