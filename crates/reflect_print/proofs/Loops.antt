@@ -1,34 +1,34 @@
--- Elements that are written one behind another, in one form and at one place.
+-- Elements one behind another, in one form and at one place.
 use Rattle.std.proofs.Common.{◌≡◌, ℕ, ◌+◌, ◌<◌, ◌≤◌, Bool, List, [], ◌∷◌, ◌++◌, length, drop, get_or, subst, sym, ap, ◌∙◌, refl, arith, append-nil, length-drop}
 use Rattle.std.proofs.lemmas.List.{drop_more}
-use Rattle.std.specs.Fmt.{WritesInCalls}
+use Rattle.text_lines.proofs.Appending.{OneBehind}
 use Rattle.text_lines.proofs.Fronts.{IsFront, none_yet, one_more}
 
-module _ {W X : Type 0} (took : W → List ℕ → W → Type 0) (Row : Bool → List X → List ℕ → Type 0) where
-  pub begun : (old now : W) (head : List ℕ) (start : Bool) (all rest : List X) (any : Bool) → any ≡ start → rest ≡ all → WritesInCalls took old head now → IsFront took Row old head start all now any rest
+module _ {X : Type 0} (Row : Bool → List X → List ℕ → Type 0) where
+  -- no element stands behind the head yet
+  pub begun : (old now head : List ℕ) (start : Bool) (all rest : List X) (any : Bool) → any ≡ start → rest ≡ all → now ≡ old ++ head → IsFront Row old head start all now any rest
   begun old now head start all rest any a r w =
-      subst (λ b. IsFront took Row old head start all now b rest) (sym a)
-      (subst (λ xs. IsFront took Row old head start all now start xs) (sym r)
-      (none_yet took Row old now head start all w))
+      subst (λ b. IsFront Row old head start all now b rest) (sym a)
+      (subst (λ xs. IsFront Row old head start all now start xs) (sym r)
+      (none_yet Row old now head start all w))
 
   -- one more element, in the form of all
   pub next_one : {P Q : Type 0} (One : Q → X → List ℕ → Type 0) (before : P → Bool → List ℕ) (turned : Bool) (p : P) (q : Q)
       → ((any : Bool) (x : X) (xs : List X) (one rest : List ℕ) → One q x one → Row turned xs rest → Row any (x ∷ xs) (before p any ++ (one ++ rest)))
-      → (old now mid next : W) (head : List ℕ) (start : Bool) (all : List X) (any flag : Bool) (x : X) (xs left : List X) (a : P) (b : Q)
+      → (old now mid next head : List ℕ) (start : Bool) (all : List X) (any flag : Bool) (x : X) (xs left : List X) (a : P) (b : Q)
       → a ≡ p → b ≡ q → flag ≡ turned → left ≡ x ∷ xs
-      → IsFront took Row old head start all now any left → WritesInCalls took now (before a any) mid
-      → (t : List ℕ) × One b x t × WritesInCalls took mid t next
-      → IsFront took Row old head start all next flag xs
+      → IsFront Row old head start all now any left → mid ≡ now ++ before a any → OneBehind mid (One b x) next
+      → IsFront Row old head start all next flag xs
   next_one One before turned p q more old now mid next head start all any flag x xs left a b ap bq f l front w v =
-      subst (λ y. IsFront took Row old head start all next y xs) (sym f)
-      (one_more took Row (One q) (before p) turned more old now mid next head start all any x xs
-      (subst (λ ys. IsFront took Row old head start all now any ys) l front)
-      (subst (λ z. WritesInCalls took now (before z any) mid) ap w)
-      (subst (λ z. (t : List ℕ) × One z x t × WritesInCalls took mid t next) bq v))
+      subst (λ y. IsFront Row old head start all next y xs) (sym f)
+      (one_more Row (One q) (before p) turned more old now mid next head start all any x xs
+      (subst (λ ys. IsFront Row old head start all now any ys) l front)
+      (subst (λ z. mid ≡ now ++ before z any) ap w)
+      (subst (λ z. OneBehind mid (One z x) next) bq v))
 
-  -- all are written
-  pub all_of : (old now : W) (head : List ℕ) (start : Bool) (all : List X) (any : Bool) (left : List X)
-      → left ≡ [] → Row any [] [] → (front : IsFront took Row old head start all now any left) → Row start all front.front
+  -- all stand there
+  pub all_of : (old now head : List ℕ) (start : Bool) (all : List X) (any : Bool) (left : List X)
+      → left ≡ [] → Row any [] [] → (front : IsFront Row old head start all now any left) → Row start all front.front
   all_of old now head start all any left e i f =
       let ended = subst (λ xs. (text : List ℕ) → Row any xs text → Row start all (f.front ++ text)) e f.whole in
       subst (Row start all) (append-nil f.front) (ended [] i)

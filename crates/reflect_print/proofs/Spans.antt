@@ -1,12 +1,11 @@
--- Entries of a message that are written one behind another.
-use Rattle.std.proofs.Common.{◌≡◌, ℕ, Bool, true, false, List, [], ◌∷◌, ◌++◌, map, subst, sym, ap, ap₂, ◌∙◌, refl}
-use Rattle.std.proofs.Output.{writes_in_calls_append, writes_in_calls_nil}
-use Rattle.std.specs.Fmt.{WritesInCalls}
+-- Entries of a message, one behind another.
+use Rattle.std.proofs.Common.{◌≡◌, ℕ, Bool, true, false, List, [], ◌∷◌, ◌++◌, map, subst, sym, ap, ap₂, ◌∙◌, refl, append-nil}
 use Rattle.reflect_message.specs.Names.{DynamicMessage, Value}
 use Rattle.reflect_contents.specs.Walked.{FieldGiven, Holding, of_message}
 use Rattle.text_lines.specs.Pieces.{before_item}
 use Rattle.text_lines.specs.declared.lines.Items.{Items}
 use Rattle.text_lines.specs.declared.options.FormatOptions.{FormatOptions}
+use Rattle.text_lines.proofs.Appending.{OneBehind, adds_both}
 use Rattle.text_lines.proofs.Fronts.{IsFront}
 use Rattle.print_parts.specs.Entries.{Entry, field, set_entry, AreDeclared, AreOthers}
 use Rattle.reflect_print.specs.MessageTexts.{IsRowText, no_entries, more_entries, IsEntryText, IsPairText, AreItems, any_behind}
@@ -27,30 +26,30 @@ behind_some : (es : List Entry) → any_behind true es ≡ true
 behind_some [] = refl
 behind_some (e ∷ es) = refl
 
-module _ {W : Type 0} (took : W → List ℕ → W → Type 0) (form : FormatOptions) (payloads x i : ℕ) (old : W) (items : Items) (all : List Entry) where
-  -- so many are written that those that are left make them whole
-  pub record IsSpanFront (now : W) (current : Items) (options : FormatOptions) (rest : List Entry) : Type 0 where
-    pub row : IsFront took (IsRowText form payloads x i items.in_braces) old [] items.any all now current.any rest
+module _ (form : FormatOptions) (payloads x i : ℕ) (old : List ℕ) (items : Items) (all : List Entry) where
+  -- so many stand there that those that are left make them whole
+  pub record IsSpanFront (now : List ℕ) (current : Items) (options : FormatOptions) (rest : List Entry) : Type 0 where
+    pub row : IsFront (IsRowText form payloads x i items.in_braces) old [] items.any all now current.any rest
     pub braces : current.in_braces ≡ items.in_braces
     pub some : any_behind current.any rest ≡ any_behind items.any all
     pub same : options ≡ form
 
   pub span_begun : (current : Items) (options : FormatOptions) (rest : List Entry) → current ≡ items → options ≡ form → rest ≡ all → IsSpanFront old current options rest
   span_begun current options rest c o r = record {
-    row = begun took (IsRowText form payloads x i items.in_braces) old old [] items.any all rest current.any (ap (λ j. j.any) c) r (writes_in_calls_nil took old);
+    row = begun (IsRowText form payloads x i items.in_braces) old old [] items.any all rest current.any (ap (λ j. j.any) c) r (sym (append-nil old));
     braces = ap (λ j. j.in_braces) c;
     some = ap₂ any_behind (ap (λ j. j.any) c) r;
     same = o;
   }
 
-  pub span_more : (now mid next : W) (current turned : Items) (options second third : FormatOptions) (e : Entry) (es left : List Entry)
+  pub span_more : (now mid next : List ℕ) (current turned : Items) (options second third : FormatOptions) (e : Entry) (es left : List Entry)
       → turned ≡ record current { any = true } → second ≡ options → third ≡ second → left ≡ e ∷ es
       → IsSpanFront now current options left
-      → WritesInCalls took now (before_item options.pretty current.in_braces current.any i) mid
-      → (t : List ℕ) × IsEntryText second payloads x i e t × WritesInCalls took mid t next
+      → mid ≡ now ++ before_item options.pretty current.in_braces current.any i
+      → OneBehind mid (IsEntryText second payloads x i e) next
       → IsSpanFront next turned third es
   span_more now mid next current turned options second third e es left t s d l f w v = record {
-    row = next_one took (IsRowText form payloads x i items.in_braces) (λ (o : FormatOptions) (y : Entry) (z : List ℕ). IsEntryText o payloads x i y z)
+    row = next_one (IsRowText form payloads x i items.in_braces) (λ (o : FormatOptions) (y : Entry) (z : List ℕ). IsEntryText o payloads x i y z)
         (λ (p : FormatOptions × Bool) (any : Bool). before_item p.0.pretty p.1 any i) true (form, items.in_braces) form
         (λ any y ys one rest o r. more_entries one rest o r)
         old now mid next [] items.any all current.any turned.any e es left (options, current.in_braces) second
@@ -60,29 +59,29 @@ module _ {W : Type 0} (took : W → List ℕ → W → Type 0) (form : FormatOpt
     same = d ∙ (s ∙ f.same);
   }
 
-  pub span_whole : (Are : List Entry → Type 0) (now : W) (current : Items) (options : FormatOptions) (left : List Entry)
+  pub span_whole : (Are : List Entry → Type 0) (now : List ℕ) (current : Items) (options : FormatOptions) (left : List Entry)
       → left ≡ [] → Are all → IsSpanFront now current options left
-      → (t : List ℕ) × IsSpan form payloads x i items current Are t × WritesInCalls took old t now
+      → OneBehind old (IsSpan form payloads x i items current Are) now
   span_whole Are now current options left l are f =
       let done : current.any ≡ any_behind items.any all = ap (any_behind current.any) (sym l) ∙ f.some in (
         f.row.front,
         (
           all,
           are,
-          all_of took (IsRowText form payloads x i items.in_braces) old now [] items.any all current.any left l no_entries f.row,
+          all_of (IsRowText form payloads x i items.in_braces) old now [] items.any all current.any left l no_entries f.row,
           ap₂ (λ (b a : Bool). record { in_braces = b; any = a }) f.braces done,
         ),
         f.row.written,
       )
 
 -- the declared fields, and behind them the others
-pub both_spans : {W : Type 0} (took : W → List ℕ → W → Type 0) (form second : FormatOptions) (payloads x i : ℕ) (braces : Bool) (m : DynamicMessage) (old mid next : W) (zero one two : Items)
+pub both_spans : (form second : FormatOptions) (payloads x i : ℕ) (braces : Bool) (m : DynamicMessage) (old mid next : List ℕ) (zero one two : Items)
     → zero ≡ record { in_braces = braces; any = false } → second ≡ form
-    → (t : List ℕ) × IsSpan form payloads x i zero one (AreDeclared form m) t × WritesInCalls took old t mid
-    → (t : List ℕ) × IsSpan second payloads x i one two (AreOthers second m) t × WritesInCalls took mid t next
-    → (t : List ℕ) × AreItems form payloads x i braces m two.any t × WritesInCalls took old t next
-both_spans took form second payloads x i braces m old mid next zero one two z s (y, (ds, are, row, after), v) b =
-    let d = subst (λ f. (t : List ℕ) × IsSpan f payloads x i one two (AreOthers f m) t × WritesInCalls took mid t next) s b in
+    → OneBehind old (IsSpan form payloads x i zero one (AreDeclared form m)) mid
+    → OneBehind mid (IsSpan second payloads x i one two (AreOthers second m)) next
+    → OneBehind old (AreItems form payloads x i braces m two.any) next
+both_spans form second payloads x i braces m old mid next zero one two z s (y, (ds, are, row, after), v) b =
+    let d = subst (λ f. OneBehind mid (IsSpan f payloads x i one two (AreOthers f m)) next) s b in
     let now : one ≡ record { in_braces = braces; any = any_behind false ds } = after ∙ ap (λ (j : Items). record j { any = any_behind j.any ds }) z in
     let second_row = subst (λ (j : Items). IsRowText form payloads x i j.in_braces j.any d.1.0 d.0) now d.1.2 in (
       y ++ d.0,
@@ -98,17 +97,15 @@ both_spans took form second payloads x i braces m old mid next zero one two z s 
         whole = refl;
         some = ap (λ j. j.any) d.1.3 ∙ ap (λ (j : Items). any_behind j.any d.1.0) now;
       },
-      writes_in_calls_append took old y mid d.0 next v d.2,
+      adds_both old next y d.0 v d.2,
     )
 
 -- an entry that is looked at through another one
-pub entry_as : {W : Type 0} (took : W → List ℕ → W → Type 0) (form : FormatOptions) (payloads x i : ℕ) (mid next : W) (a b : Entry) → a ≡ b
-    → (t : List ℕ) × IsEntryText form payloads x i a t × WritesInCalls took mid t next
-    → (t : List ℕ) × IsEntryText form payloads x i b t × WritesInCalls took mid t next
-entry_as took form payloads x i mid next a b e w = subst (λ y. (t : List ℕ) × IsEntryText form payloads x i y t × WritesInCalls took mid t next) e w
+pub entry_as : (form : FormatOptions) (payloads x i : ℕ) (mid next : List ℕ) (a b : Entry) → a ≡ b
+    → OneBehind mid (IsEntryText form payloads x i a) next → OneBehind mid (IsEntryText form payloads x i b) next
+entry_as form payloads x i mid next a b e = subst (λ y. OneBehind mid (IsEntryText form payloads x i y) next) e
 
 -- a map's entry, whose value's kind is looked at through another one
-pub pair_as : {W : Type 0} (took : W → List ℕ → W → Type 0) (form : FormatOptions) (payloads x i : ℕ) (pair : MapKey × Value) (mid next : W) (a b : Named) → a ≡ b
-    → (t : List ℕ) × IsPairText form payloads x i a pair t × WritesInCalls took mid t next
-    → (t : List ℕ) × IsPairText form payloads x i b pair t × WritesInCalls took mid t next
-pair_as took form payloads x i pair mid next a b e w = subst (λ k. (t : List ℕ) × IsPairText form payloads x i k pair t × WritesInCalls took mid t next) e w
+pub pair_as : (form : FormatOptions) (payloads x i : ℕ) (pair : MapKey × Value) (mid next : List ℕ) (a b : Named) → a ≡ b
+    → OneBehind mid (IsPairText form payloads x i a pair) next → OneBehind mid (IsPairText form payloads x i b pair) next
+pair_as form payloads x i pair mid next a b e = subst (λ k. OneBehind mid (IsPairText form payloads x i k pair) next) e

@@ -1,3 +1,4 @@
+pub mod Errors
 pub mod MessageTexts
 pub mod Named
 pub mod Written

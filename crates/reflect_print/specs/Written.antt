@@ -1,9 +1,6 @@
--- What the parts of a writer write.
-use Rattle.std.specs.Prelude.{◌≡◌, ◌⊎◌, ℕ, List, Option, None, Some, Result, Ok, Err}
-use Rattle.std.specs.Fmt.{WritesInCalls}
+-- What a writer writes, and what its parts add.
+use Rattle.std.specs.Prelude.{◌≡◌, ◌⊎◌, ℕ, List, Option, None, Some}
 use Rattle.reflect_message.specs.Names.{DynamicMessage}
-use Rattle.text_lines.specs.Appends.{Appends, UnlessRefused}
-use Rattle.text_lines.specs.declared.error.WriteError.{WriteError}
 use Rattle.text_lines.specs.declared.lines.Items.{Items}
 use Rattle.text_lines.specs.declared.options.FormatOptions.{FormatOptions}
 use Rattle.print_parts.specs.Entries.{Entry}
@@ -12,13 +9,12 @@ use Rattle.print_parts.specs.Parts.{url_of}
 use Rattle.print_parts.specs.declared.any.Held.{Held}
 use Rattle.reflect_print.specs.MessageTexts.{IsRowText, MayExpand, any_behind}
 
--- as `WritesOne`, of a text that goes with the answer
-abbrev pub WritesFor : {W T : Type 0} → (W → List ℕ → W → Type 0) → W → Result T WriteError
-    → (T → List ℕ → Type 0) → W → Type 0
-WritesFor took old (Ok x) Is new = (text : List ℕ) × Is x text × WritesInCalls took old text new
-WritesFor took old (Err e) Is new = UnlessRefused e (Appends took old new)
+-- one of these texts is what the output took, in one call
+abbrev pub WritesOneOf : {W : Type 0} → (W → List ℕ → W → Type 0) → W → (List ℕ → Type 0) → W
+    → Type 0
+WritesOneOf took old Is new = (text : List ℕ) × Is text × took old text new
 
--- the same, where the form expands messages
+-- the message in place of which another is printed, if the form expands it
 abbrev pub IsExpansion : FormatOptions → ℕ → DynamicMessage → Option Held → Type 0
 IsExpansion form x m None = (MayExpand form x → ⊥) ⊎ Expands m None
 IsExpansion form x m (Some h) = MayExpand form x × Expands m (Some (url_of h, h.body))

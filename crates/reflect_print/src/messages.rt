@@ -1,6 +1,6 @@
 //! What messages and values are written as.
 
-ghost use Rattle.text_lines.specs.Appends.{Writes, WritesOne};
+ghost use Rattle.text_lines.specs.Added.{Adds, AddsOneOf};
 ghost use Rattle.reflect_scalar.specs.Keys.{key_view};
 ghost use Rattle.reflect_pool.specs.FieldsLeft.{field_type};
 ghost use Rattle.reflect_pool.specs.Kinds.{IsKind};
@@ -26,16 +26,16 @@ ghost use Rattle.reflect_print.specs.MessageTexts.{
 };
 ghost use Rattle.reflect_print.specs.Named.{IsEnumText, kind_given, kind_held, label_of, value_kind};
 ghost use Rattle.print_parts.specs.Parts.{other_entry, url_of};
-ghost use Rattle.reflect_print.specs.Written.{IsExpansion, IsSpan, WritesFor};
+ghost use Rattle.reflect_print.specs.Written.{IsExpansion, IsSpan};
 ghost use Rattle.std.specs.Prelude.{◌≡◌, IfOk, None, OnOk, Some, true, false};
 
 use print_parts::{Held, Other, declared_fields, held_message, other_entries};
 use reflect_contents::MessageWalks;
 use reflect_message::{DynamicMessage, MapKey, Value};
 use reflect_pool::{ExtensionDescriptor, FieldDescriptor, Kind};
+use std::alloc::AllocError;
 use std::collections::BTreeMap;
-use std::fmt;
-use text_lines::{Items, Lines, Place, WriteError};
+use text_lines::{Items, Lines, Place};
 
 /// The name of a field of a kind: a group bears its type's.
 fn text_name<'p>(field: &FieldDescriptor<'p>, kind: &Kind<'p>) -> &'p str
@@ -49,9 +49,9 @@ fn text_name<'p>(field: &FieldDescriptor<'p>, kind: &Kind<'p>) -> &'p str
 }
 
 /// What stands between a name and its value.
-fn put_before<W: fmt::Write>(lines: &mut Lines<W>, value: &Value<'_>) -> Result<(), WriteError>
-    ensures text { Writes W.write_str_gives lines.old.output result
-        (before_value lines.old.options.pretty (message_in value.now)) lines.new.output }
+fn put_before(lines: &mut Lines, value: &Value<'_>) -> Result<(), AllocError>
+    ensures text { OnOk result (Adds lines.old.output
+        (before_value lines.old.options.pretty (message_in value.now)) lines.new.output) }
     ensures form { lines.new.options ≡ lines.old.options }
 {
     match value {
@@ -61,13 +61,9 @@ fn put_before<W: fmt::Write>(lines: &mut Lines<W>, value: &Value<'_>) -> Result<
 }
 
 /// The name of an enum's value, or its number where it has none.
-fn enum_text<W: fmt::Write>(
-    lines: &mut Lines<W>,
-    number: &i32,
-    kind: Option<&Kind<'_>>,
-) -> Result<(), WriteError>
-    ensures text { WritesOne W.write_str_gives lines.old.output result
-        (IsEnumText (kind_given kind.entry) number.now) lines.new.output }
+fn enum_text(lines: &mut Lines, number: &i32, kind: Option<&Kind<'_>>) -> Result<(), AllocError>
+    ensures text { OnOk result (AddsOneOf lines.old.output
+        (IsEnumText (kind_given kind.entry) number.now) lines.new.output) }
     ensures form { lines.new.options ≡ lines.old.options }
 {
     if let Some(Kind::Enum(descriptor)) = kind {
@@ -79,9 +75,9 @@ fn enum_text<W: fmt::Write>(
 }
 
 /// The key of a map's entry.
-fn map_key<W: fmt::Write>(lines: &mut Lines<W>, key: &MapKey) -> Result<(), WriteError>
-    ensures text { WritesOne W.write_str_gives lines.old.output result
-        (IsSingleText None (key_view key.now)) lines.new.output }
+fn map_key(lines: &mut Lines, key: &MapKey) -> Result<(), AllocError>
+    ensures text { OnOk result (AddsOneOf lines.old.output
+        (IsSingleText None (key_view key.now)) lines.new.output) }
     ensures form { lines.new.options ≡ lines.old.options }
 {
     match key {
@@ -95,15 +91,15 @@ fn map_key<W: fmt::Write>(lines: &mut Lines<W>, key: &MapKey) -> Result<(), Writ
 }
 
 /// The key of an entry in braces, under its name.
-fn entry_key<W: fmt::Write>(
-    lines: &mut Lines<W>,
+fn entry_key(
+    lines: &mut Lines,
     key: &MapKey,
     items: &mut Items,
     at: Place,
-) -> Result<(), WriteError>
+) -> Result<(), AllocError>
     requires { items.old ≡ record { in_braces = true; any = false } }
-    ensures text { WritesOne W.write_str_gives lines.old.output result
-        (IsKeyText lines.old.options.pretty at.indent (key_view key.now)) lines.new.output }
+    ensures text { OnOk result (AddsOneOf lines.old.output
+        (IsKeyText lines.old.options.pretty at.indent (key_view key.now)) lines.new.output) }
     ensures items { OnOk result (items.new ≡ record { in_braces = true; any = true }) }
     ensures form { lines.new.options ≡ lines.old.options }
 {
@@ -114,11 +110,11 @@ fn entry_key<W: fmt::Write>(
 }
 
 /// What is printed in place of a `google.protobuf.Any`, if the form expands it.
-fn expanded<'m, 'p, W: fmt::Write>(
-    lines: &Lines<W>,
+fn expanded<'m, 'p>(
+    lines: &Lines,
     message: &'m DynamicMessage<'p>,
     at: Place,
-) -> Result<Option<Held<'m, 'p>>, WriteError>
+) -> Result<Option<Held<'m, 'p>>, AllocError>
     ensures { IfOk result (IsExpansion lines.now.options at.expansions message.now) }
 {
     if lines.options.expand_any && at.expansions > 0 {
@@ -130,14 +126,14 @@ fn expanded<'m, 'p, W: fmt::Write>(
 
 /// A message in braces.
 #[cycle(message)]
-fn braced_message<W: fmt::Write>(
-    lines: &mut Lines<W>,
+fn braced_message(
+    lines: &mut Lines,
     message: &DynamicMessage<'_>,
     at: Place,
-) -> Result<(), WriteError>
-    ensures text { WritesOne W.write_str_gives lines.old.output result
+) -> Result<(), AllocError>
+    ensures text { OnOk result (AddsOneOf lines.old.output
         (IsBracedText lines.old.options at.payloads at.expansions at.indent message.now)
-        lines.new.output }
+        lines.new.output) }
     ensures form { lines.new.options ≡ lines.old.options }
 {
     lines.put("{")?;
@@ -148,15 +144,15 @@ fn braced_message<W: fmt::Write>(
 
 /// What a message holds; says whether anything was printed.
 #[cycle(message)]
-pub fn items<W: fmt::Write>(
-    lines: &mut Lines<W>,
+pub fn items(
+    lines: &mut Lines,
     message: &DynamicMessage<'_>,
     in_braces: bool,
     at: Place,
-) -> Result<bool, WriteError>
-    ensures text { WritesFor W.write_str_gives lines.old.output result
-        (IsItemsText lines.old.options at.payloads at.expansions at.indent in_braces message.now)
-        lines.new.output }
+) -> Result<bool, AllocError>
+    ensures text { IfOk result (λ any. AddsOneOf lines.old.output
+        (IsItemsText lines.old.options at.payloads at.expansions at.indent in_braces message.now
+        any) lines.new.output) }
     ensures form { lines.new.options ≡ lines.old.options }
 {
     match expanded(lines, message, at)? {
@@ -170,15 +166,15 @@ pub fn items<W: fmt::Write>(
 
 /// The fields, extensions and unknown records of a message; says whether there are any.
 #[cycle(message)]
-fn entries<W: fmt::Write>(
-    lines: &mut Lines<W>,
+fn entries(
+    lines: &mut Lines,
     message: &DynamicMessage<'_>,
     in_braces: bool,
     at: Place,
-) -> Result<bool, WriteError>
-    ensures text { WritesFor W.write_str_gives lines.old.output result
-        (AreItems lines.old.options at.payloads at.expansions at.indent in_braces message.now)
-        lines.new.output }
+) -> Result<bool, AllocError>
+    ensures text { IfOk result (λ any. AddsOneOf lines.old.output
+        (AreItems lines.old.options at.payloads at.expansions at.indent in_braces message.now any)
+        lines.new.output) }
     ensures form { lines.new.options ≡ lines.old.options }
 {
     let mut items = Items::new(in_braces);
@@ -189,16 +185,16 @@ fn entries<W: fmt::Write>(
 
 /// The message that a `google.protobuf.Any` holds, under its type's URL.
 #[cycle(message)]
-fn expansion<W: fmt::Write>(
-    lines: &mut Lines<W>,
+fn expansion(
+    lines: &mut Lines,
     held: &Held<'_, '_>,
     in_braces: bool,
     at: Place,
-) -> Result<(), WriteError>
-    ensures text { WritesOne W.write_str_gives lines.old.output result
+) -> Result<(), AllocError>
+    ensures text { OnOk result (AddsOneOf lines.old.output
         (IsUrlText lines.old.options at.payloads at.expansions at.indent in_braces
         (url_of held.now) held.now.body)
-        lines.new.output }
+        lines.new.output) }
     ensures form { lines.new.options ≡ lines.old.options }
 {
     let mut items = Items::new(in_braces);
@@ -214,16 +210,16 @@ fn expansion<W: fmt::Write>(
 
 /// The declared fields.
 #[cycle(message)]
-fn declared<W: fmt::Write>(
-    lines: &mut Lines<W>,
+fn declared(
+    lines: &mut Lines,
     message: &DynamicMessage<'_>,
     items: &mut Items,
     at: Place,
-) -> Result<(), WriteError>
-    ensures text { WritesOne W.write_str_gives lines.old.output result
+) -> Result<(), AllocError>
+    ensures text { OnOk result (AddsOneOf lines.old.output
         (IsSpan lines.old.options at.payloads at.expansions at.indent items.old items.new
         (AreDeclared lines.old.options message.now))
-        lines.new.output }
+        lines.new.output) }
     ensures form { lines.new.options ≡ lines.old.options }
 {
     if lines.options.skip_default_fields && !lines.options.in_index_order {
@@ -235,16 +231,16 @@ fn declared<W: fmt::Write>(
 
 /// The fields that are set, by ascending number.
 #[cycle(message)]
-fn set_fields<W: fmt::Write>(
-    lines: &mut Lines<W>,
+fn set_fields(
+    lines: &mut Lines,
     message: &DynamicMessage<'_>,
     items: &mut Items,
     at: Place,
-) -> Result<(), WriteError>
-    ensures text { WritesOne W.write_str_gives lines.old.output result
+) -> Result<(), AllocError>
+    ensures text { OnOk result (AddsOneOf lines.old.output
         (IsSpan lines.old.options at.payloads at.expansions at.indent items.old items.new
         (λ es. es ≡ set_entries message.now))
-        lines.new.output }
+        lines.new.output) }
     ensures form { lines.new.options ≡ lines.old.options }
 {
     'each: for (field, value) in message.fields() {
@@ -256,16 +252,16 @@ fn set_fields<W: fmt::Write>(
 
 /// The fields that the options choose, in their order.
 #[cycle(message)]
-fn chosen_fields<W: fmt::Write>(
-    lines: &mut Lines<W>,
+fn chosen_fields(
+    lines: &mut Lines,
     message: &DynamicMessage<'_>,
     items: &mut Items,
     at: Place,
-) -> Result<(), WriteError>
-    ensures text { WritesOne W.write_str_gives lines.old.output result
+) -> Result<(), AllocError>
+    ensures text { OnOk result (AddsOneOf lines.old.output
         (IsSpan lines.old.options at.payloads at.expansions at.indent items.old items.new
         (AreChosen lines.old.options message.now))
-        lines.new.output }
+        lines.new.output) }
     ensures form { lines.new.options ≡ lines.old.options }
 {
     let fields = declared_fields(lines.alloc, message, lines.options)?;
@@ -278,16 +274,16 @@ fn chosen_fields<W: fmt::Write>(
 
 /// Extensions and unknown records.
 #[cycle(message)]
-fn others<W: fmt::Write>(
-    lines: &mut Lines<W>,
+fn others(
+    lines: &mut Lines,
     message: &DynamicMessage<'_>,
     items: &mut Items,
     at: Place,
-) -> Result<(), WriteError>
-    ensures text { WritesOne W.write_str_gives lines.old.output result
+) -> Result<(), AllocError>
+    ensures text { OnOk result (AddsOneOf lines.old.output
         (IsSpan lines.old.options at.payloads at.expansions at.indent items.old items.new
         (AreOthers lines.old.options message.now))
-        lines.new.output }
+        lines.new.output) }
     ensures form { lines.new.options ≡ lines.old.options }
 {
     let entries = other_entries(lines.alloc, message, lines.options)?;
@@ -300,15 +296,11 @@ fn others<W: fmt::Write>(
 
 /// An extension or an unknown record.
 #[cycle(message)]
-fn other_text<W: fmt::Write>(
-    lines: &mut Lines<W>,
-    other: &Other<'_, '_>,
-    at: Place,
-) -> Result<(), WriteError>
-    ensures text { WritesOne W.write_str_gives lines.old.output result
+fn other_text(lines: &mut Lines, other: &Other<'_, '_>, at: Place) -> Result<(), AllocError>
+    ensures text { OnOk result (AddsOneOf lines.old.output
         (IsEntryText lines.old.options at.payloads at.expansions at.indent
         (other_entry other.now))
-        lines.new.output }
+        lines.new.output) }
     ensures form { lines.new.options ≡ lines.old.options }
 {
     match other {
@@ -319,16 +311,16 @@ fn other_text<W: fmt::Write>(
 
 /// A field with its value.
 #[cycle(message)]
-fn field_text<W: fmt::Write>(
-    lines: &mut Lines<W>,
+fn field_text(
+    lines: &mut Lines,
     descriptor: FieldDescriptor<'_>,
     value: &Value<'_>,
     at: Place,
-) -> Result<(), WriteError>
-    ensures text { WritesOne W.write_str_gives lines.old.output result
+) -> Result<(), AllocError>
+    ensures text { OnOk result (AddsOneOf lines.old.output
         (IsEntryText lines.old.options at.payloads at.expansions at.indent
         (field (field_pool descriptor.entry) (field_type descriptor.entry) value.now))
-        lines.new.output }
+        lines.new.output) }
     ensures form { lines.new.options ≡ lines.old.options }
 {
     let kind = descriptor.kind();
@@ -338,16 +330,16 @@ fn field_text<W: fmt::Write>(
 
 /// An extension with its value.
 #[cycle(message)]
-fn extension_text<W: fmt::Write>(
-    lines: &mut Lines<W>,
+fn extension_text(
+    lines: &mut Lines,
     descriptor: ExtensionDescriptor<'_>,
     value: &Value<'_>,
     at: Place,
-) -> Result<(), WriteError>
-    ensures text { WritesOne W.write_str_gives lines.old.output result
+) -> Result<(), AllocError>
+    ensures text { OnOk result (AddsOneOf lines.old.output
         (IsEntryText lines.old.options at.payloads at.expansions at.indent
         (extension (extension_pool descriptor.entry) (extension_type descriptor.entry) value.now))
-        lines.new.output }
+        lines.new.output) }
     ensures form { lines.new.options ≡ lines.old.options }
 {
     lines.put_bracketed(descriptor.full_name())?;
@@ -356,16 +348,16 @@ fn extension_text<W: fmt::Write>(
 
 /// What stands behind a name: a colon but before a message, and the value.
 #[cycle(message)]
-fn named_value<W: fmt::Write>(
-    lines: &mut Lines<W>,
+fn named_value(
+    lines: &mut Lines,
     value: &Value<'_>,
     kind: Option<&Kind<'_>>,
     at: Place,
-) -> Result<(), WriteError>
-    ensures text { WritesOne W.write_str_gives lines.old.output result
+) -> Result<(), AllocError>
+    ensures text { OnOk result (AddsOneOf lines.old.output
         (IsNamedText lines.old.options at.payloads at.expansions at.indent (kind_given kind.entry)
         value.now)
-        lines.new.output }
+        lines.new.output) }
     ensures form { lines.new.options ≡ lines.old.options }
 {
     put_before(lines, value)?;
@@ -374,16 +366,16 @@ fn named_value<W: fmt::Write>(
 
 /// A value of a kind.
 #[cycle(message)]
-pub fn value_text<W: fmt::Write>(
-    lines: &mut Lines<W>,
+pub fn value_text(
+    lines: &mut Lines,
     value: &Value<'_>,
     kind: Option<&Kind<'_>>,
     at: Place,
-) -> Result<(), WriteError>
-    ensures text { WritesOne W.write_str_gives lines.old.output result
+) -> Result<(), AllocError>
+    ensures text { OnOk result (AddsOneOf lines.old.output
         (IsValueText lines.old.options at.payloads at.expansions at.indent (kind_given kind.entry)
         value.now)
-        lines.new.output }
+        lines.new.output) }
     ensures form { lines.new.options ≡ lines.old.options }
 {
     match value {
@@ -403,16 +395,16 @@ pub fn value_text<W: fmt::Write>(
 
 /// The values of a list in brackets.
 #[cycle(message)]
-fn list<W: fmt::Write>(
-    lines: &mut Lines<W>,
+fn list(
+    lines: &mut Lines,
     values: &[Value<'_>],
     kind: Option<&Kind<'_>>,
     at: Place,
-) -> Result<(), WriteError>
-    ensures text { WritesOne W.write_str_gives lines.old.output result
+) -> Result<(), AllocError>
+    ensures text { OnOk result (AddsOneOf lines.old.output
         (IsInBrackets (IsListText lines.old.options at.payloads at.expansions at.indent
         (kind_given kind.entry) true values.now))
-        lines.new.output }
+        lines.new.output) }
     ensures form { lines.new.options ≡ lines.old.options }
 {
     let inner = at.deeper()?;
@@ -439,16 +431,16 @@ fn kind_of_values<'p>(kind: Option<&Kind<'p>>) -> Option<Kind<'p>>
 
 /// The entries of a map as a list of messages.
 #[cycle(message)]
-fn map<W: fmt::Write>(
-    lines: &mut Lines<W>,
+fn map(
+    lines: &mut Lines,
     pairs: &BTreeMap<MapKey, Value<'_>>,
     kind: Option<&Kind<'_>>,
     at: Place,
-) -> Result<(), WriteError>
-    ensures text { WritesOne W.write_str_gives lines.old.output result
+) -> Result<(), AllocError>
+    ensures text { OnOk result (AddsOneOf lines.old.output
         (IsInBrackets (IsMapText lines.old.options at.payloads at.expansions at.indent
         (value_kind (kind_given kind.entry)) true pairs.now.entries))
-        lines.new.output }
+        lines.new.output) }
     ensures form { lines.new.options ≡ lines.old.options }
 {
     let inner = at.deeper()?;
@@ -464,17 +456,17 @@ fn map<W: fmt::Write>(
 
 /// An entry of a map as a message.
 #[cycle(message)]
-fn pair<W: fmt::Write>(
-    lines: &mut Lines<W>,
+fn pair(
+    lines: &mut Lines,
     key: &MapKey,
     value: &Value<'_>,
     kind: Option<&Kind<'_>>,
     at: Place,
-) -> Result<(), WriteError>
-    ensures text { WritesOne W.write_str_gives lines.old.output result
+) -> Result<(), AllocError>
+    ensures text { OnOk result (AddsOneOf lines.old.output
         (IsPairText lines.old.options at.payloads at.expansions at.indent (kind_given kind.entry)
         (key.now, value.now))
-        lines.new.output }
+        lines.new.output) }
     ensures form { lines.new.options ≡ lines.old.options }
 {
     lines.put("{")?;
@@ -487,18 +479,18 @@ fn pair<W: fmt::Write>(
 
 /// The value of an entry, under its name.
 #[cycle(message)]
-fn entry_value<W: fmt::Write>(
-    lines: &mut Lines<W>,
+fn entry_value(
+    lines: &mut Lines,
     value: &Value<'_>,
     kind: Option<&Kind<'_>>,
     items: &mut Items,
     at: Place,
-) -> Result<(), WriteError>
+) -> Result<(), AllocError>
     requires { items.old ≡ record { in_braces = true; any = true } }
-    ensures text { WritesOne W.write_str_gives lines.old.output result
+    ensures text { OnOk result (AddsOneOf lines.old.output
         (IsValueUnder lines.old.options at.payloads at.expansions at.indent (kind_given kind.entry)
         value.now)
-        lines.new.output }
+        lines.new.output) }
     ensures form { lines.new.options ≡ lines.old.options }
 {
     lines.next_item(items, at)?;

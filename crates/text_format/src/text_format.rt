@@ -5,7 +5,7 @@ ghost use Rattle.reflect_format.specs.Told.{Told};
 ghost use Rattle.text_format.specs.Texts.{Fills, IsFault, IsFaultOf, IsUnfit, Makes, MakesNone, Stops};
 ghost use Rattle.reflect_print.specs.MessageTexts.{IsMessageText};
 ghost use Rattle.text_lines.specs.Forms.{usual_form};
-ghost use Rattle.text_lines.specs.declared.error.WriteError.TheVariants.{Memory};
+ghost use Rattle.reflect_print.specs.declared.error.WriteError.TheVariants.{Memory};
 
 use reflect_format::{ParseError, Parser};
 use reflect_message::{DynamicMessage, MessageParts};

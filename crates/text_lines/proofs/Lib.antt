@@ -1,4 +1,3 @@
 pub mod Appending
 pub mod Fronts
 pub mod Rows
-pub mod Lent

@@ -1,5 +1,4 @@
-pub mod Appends
-pub mod Errors
+pub mod Added
 pub mod Forms
 pub mod Pieces
 pub mod UnknownTexts

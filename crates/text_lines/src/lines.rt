@@ -1,6 +1,6 @@
 //! Lines, items and their separators.
 
-ghost use Rattle.text_lines.specs.Appends.{Writes};
+ghost use Rattle.text_lines.specs.Added.{Adds};
 ghost use Rattle.text_lines.specs.Pieces.{
   before_element,
   before_item,
@@ -11,22 +11,32 @@ ghost use Rattle.text_lines.specs.Pieces.{
   padding,
   quoted,
 };
-ghost use Rattle.std.specs.Prelude.{◌≡◌, ◌++◌, ◌∷◌, [], IfSome, OnOk, true, false};
+ghost use Rattle.std.specs.Prelude.{
+  ◌≡◌,
+  ◌++◌,
+  ◌∷◌,
+  [],
+  IfSome,
+  OnOk,
+  string_bytes,
+  true,
+  false,
+};
 
-use crate::error::WriteError;
 use crate::options::FormatOptions;
-use crate::output::{put, put_bracketed, put_quoted, put_shown};
+use crate::output::{put, put_shown};
 use crate::place::Place;
-use std::alloc::Global;
+use protox_lex::Escaped;
+use std::alloc::{AllocError, Global};
 use std::fmt;
 
-/// Writes texts to an output, in the form of the options. After an error a part of the text may be
-/// written.
+/// A text that grows, in the form of the options. Its calls are refused for want of memory alone,
+/// and may then have added a part of what they add.
 #[derive(Drop)]
-pub struct Lines<W: fmt::Write> {
+pub struct Lines {
     pub alloc: Global,
     pub options: FormatOptions,
-    pub output: W,
+    pub output: String,
 }
 
 /// How far a list of lines or of entries is.
@@ -50,38 +60,48 @@ impl Items {
     }
 }
 
-impl<W: fmt::Write> Lines<W> {
+impl Lines {
+    /// No text yet.
+    pub fn new(alloc: Global, options: FormatOptions) -> Lines
+        ensures text { string_bytes result.output ≡ [] }
+        ensures form { result.options ≡ options }
+    {
+        Lines {
+            alloc,
+            options,
+            output: String::new(alloc),
+        }
+    }
+
     /// A text.
-    pub fn put(&mut self, text: &str) -> Result<(), WriteError>
-        ensures text { Writes W.write_str_gives self.old.output result
-            text.now self.new.output }
+    pub fn put(&mut self, text: &str) -> Result<(), AllocError>
+        ensures text { OnOk result (Adds self.old.output text.now self.new.output) }
         ensures form { self.new.options ≡ self.old.options }
     {
         put(&mut self.output, text)
     }
 
     /// A value as it displays itself.
-    pub fn put_shown<D: fmt::Display + Drop>(&mut self, value: D) -> Result<(), WriteError>
-        ensures text { IfSome (D.output value)
-            (λ text. Writes W.write_str_gives self.old.output result text self.new.output) }
+    pub fn put_shown<D: fmt::Display + Drop>(&mut self, value: D) -> Result<(), AllocError>
+        ensures text { OnOk result (IfSome (D.output value)
+            (λ text. Adds self.old.output text self.new.output)) }
         ensures form { self.new.options ≡ self.old.options }
     {
         put_shown(&mut self.output, value)
     }
 
     /// A name in brackets.
-    pub fn put_bracketed(&mut self, name: &str) -> Result<(), WriteError>
-        ensures text { Writes W.write_str_gives self.old.output result
-            (bracketed name.now) self.new.output }
+    pub fn put_bracketed(&mut self, name: &str) -> Result<(), AllocError>
+        ensures text { OnOk result (Adds self.old.output (bracketed name.now) self.new.output) }
         ensures form { self.new.options ≡ self.old.options }
     {
-        put_bracketed(&mut self.output, name)
+        write!(self.output, "[{name}]")
     }
 
     /// What stands before an element of a list.
-    pub fn next_element(&mut self, is_first: &mut bool) -> Result<(), WriteError>
-        ensures text { Writes W.write_str_gives self.old.output result
-            (before_element self.old.options.pretty is_first.old) self.new.output }
+    pub fn next_element(&mut self, is_first: &mut bool) -> Result<(), AllocError>
+        ensures text { OnOk result (Adds self.old.output
+            (before_element self.old.options.pretty is_first.old) self.new.output) }
         ensures first { OnOk result (is_first.new ≡ false) }
         ensures form { self.new.options ≡ self.old.options }
     {
@@ -94,10 +114,10 @@ impl<W: fmt::Write> Lines<W> {
     }
 
     /// What stands before an item.
-    pub fn next_item(&mut self, items: &mut Items, at: Place) -> Result<(), WriteError>
-        ensures text { Writes W.write_str_gives self.old.output result
+    pub fn next_item(&mut self, items: &mut Items, at: Place) -> Result<(), AllocError>
+        ensures text { OnOk result (Adds self.old.output
             (before_item self.old.options.pretty items.old.in_braces items.old.any at.indent)
-            self.new.output }
+            self.new.output) }
         ensures items { OnOk result (items.new ≡ record items.old { any = true }) }
         ensures form { self.new.options ≡ self.old.options }
     {
@@ -113,9 +133,9 @@ impl<W: fmt::Write> Lines<W> {
     }
 
     /// The brace behind items that stand in braces at a place.
-    pub fn close(&mut self, any: bool, at: Place) -> Result<(), WriteError>
-        ensures text { Writes W.write_str_gives self.old.output result
-            (last_line self.old.options.pretty any at.indent ++ 125 ∷ []) self.new.output }
+    pub fn close(&mut self, any: bool, at: Place) -> Result<(), AllocError>
+        ensures text { OnOk result (Adds self.old.output
+            (last_line self.old.options.pretty any at.indent ++ 125 ∷ []) self.new.output) }
         ensures form { self.new.options ≡ self.old.options }
     {
         self.last_line(any, at)?;
@@ -123,9 +143,9 @@ impl<W: fmt::Write> Lines<W> {
     }
 
     /// The line that the brace behind items stands in.
-    fn last_line(&mut self, any: bool, at: Place) -> Result<(), WriteError>
-        ensures text { Writes W.write_str_gives self.old.output result
-            (last_line self.old.options.pretty any at.indent) self.new.output }
+    fn last_line(&mut self, any: bool, at: Place) -> Result<(), AllocError>
+        ensures text { OnOk result (Adds self.old.output
+            (last_line self.old.options.pretty any at.indent) self.new.output) }
         ensures form { self.new.options ≡ self.old.options }
     {
         if any && self.options.pretty {
@@ -135,9 +155,8 @@ impl<W: fmt::Write> Lines<W> {
     }
 
     /// The end of a line, and the spaces that the next one begins with.
-    fn line(&mut self, at: Place) -> Result<(), WriteError>
-        ensures text { Writes W.write_str_gives self.old.output result
-            (new_line at.indent) self.new.output }
+    fn line(&mut self, at: Place) -> Result<(), AllocError>
+        ensures text { OnOk result (Adds self.old.output (new_line at.indent) self.new.output) }
         ensures form { self.new.options ≡ self.old.options }
     {
         put(&mut self.output, "\n")?;
@@ -148,9 +167,9 @@ impl<W: fmt::Write> Lines<W> {
     }
 
     /// A space where the form has one.
-    pub fn padding(&mut self) -> Result<(), WriteError>
-        ensures text { Writes W.write_str_gives self.old.output result
-            (padding self.old.options.pretty) self.new.output }
+    pub fn padding(&mut self) -> Result<(), AllocError>
+        ensures text { OnOk result (Adds self.old.output (padding self.old.options.pretty)
+            self.new.output) }
         ensures form { self.new.options ≡ self.old.options }
     {
         if self.options.pretty {
@@ -160,9 +179,9 @@ impl<W: fmt::Write> Lines<W> {
     }
 
     /// A colon and the space behind it.
-    pub fn colon(&mut self) -> Result<(), WriteError>
-        ensures text { Writes W.write_str_gives self.old.output result
-            (colon self.old.options.pretty) self.new.output }
+    pub fn colon(&mut self) -> Result<(), AllocError>
+        ensures text { OnOk result (Adds self.old.output (colon self.old.options.pretty)
+            self.new.output) }
         ensures form { self.new.options ≡ self.old.options }
     {
         put(&mut self.output, ":")?;
@@ -170,11 +189,11 @@ impl<W: fmt::Write> Lines<W> {
     }
 
     /// Bytes as a string literal.
-    pub fn string(&mut self, bytes: &[u8]) -> Result<(), WriteError>
-        ensures text { Writes W.write_str_gives self.old.output result
-            (quoted bytes.now) self.new.output }
+    pub fn string(&mut self, bytes: &[u8]) -> Result<(), AllocError>
+        ensures text { OnOk result (Adds self.old.output (quoted bytes.now) self.new.output) }
         ensures form { self.new.options ≡ self.old.options }
     {
-        put_quoted(&mut self.output, bytes)
+        let contents = Escaped(bytes);
+        write!(self.output, "\"{contents}\"")
     }
 }

@@ -1,7 +1,6 @@
-ghost use Rattle.std.specs.Prelude.{◌≡◌, ◌+◌, ◌≤◌, ◌⊎◌, IfErr, IfOk};
-ghost use Rattle.text_lines.specs.declared.error.WriteError.TheVariants.{Memory};
+ghost use Rattle.std.specs.Prelude.{◌≡◌, ◌+◌, ◌≤◌, ◌⊎◌, IfOk, OnErr};
 
-use crate::error::WriteError;
+use std::alloc::AllocError;
 
 /// How many payloads that look like records may be printed as such in one another.
 const MAX_PAYLOADS: u32 = 100;
@@ -38,14 +37,14 @@ impl Place {
     };
 
     /// One level deeper on the same line.
-    pub fn deeper(self) -> Result<Place, WriteError>
+    pub fn deeper(self) -> Result<Place, AllocError>
         ensures levels { IfOk result (λ p. self.levels ≡ p.levels + 1) }
         ensures place { IfOk result (λ p. p ≡ record self { levels = p.levels }) }
-        ensures err { IfErr result (λ e. (e ≡ Memory) × (self.levels ≡ 0)) }
+        ensures err { OnErr result (self.levels ≡ 0) }
     {
         match self.levels.checked_sub(1) {
             Some(levels) => Ok(Place { levels, ..self }),
-            None => Err(WriteError::Memory),
+            None => Err(AllocError),
         }
     }
 
@@ -64,16 +63,15 @@ impl Place {
 
     /// In braces at this place. A line with more spaces than a `usize` counts is wanted for no text
     /// that memory holds.
-    pub fn in_braces(self) -> Result<Place, WriteError>
+    pub fn in_braces(self) -> Result<Place, AllocError>
         ensures levels { IfOk result (λ p. self.levels ≡ p.levels + 1) }
         ensures place { IfOk result
             (λ p. p ≡ record self { indent = self.indent + 2; levels = p.levels }) }
-        ensures err { IfErr result (λ e. e ≡ Memory) }
     {
         let inner = self.deeper()?;
         match inner.indent.checked_add(2) {
             Some(indent) => Ok(Place { indent, ..inner }),
-            None => Err(WriteError::Memory),
+            None => Err(AllocError),
         }
     }
 }

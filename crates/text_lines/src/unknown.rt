@@ -1,6 +1,6 @@
 //! Records of fields that no type declares, as text.
 
-ghost use Rattle.text_lines.specs.Appends.{Writes, WritesOne};
+ghost use Rattle.text_lines.specs.Added.{Adds, AddsOneOf};
 ghost use Rattle.text_lines.specs.Pieces.{colon, hexadecimal, quoted};
 ghost use Rattle.text_lines.specs.UnknownTexts.{
   Infers,
@@ -12,18 +12,16 @@ ghost use Rattle.text_lines.specs.UnknownTexts.{
 ghost use Rattle.reflect_wire.specs.Records.{group};
 ghost use Rattle.reflect_wire.specs.Views.{field_view, payload_view, set_view};
 ghost use Rattle.std.specs.Fmt.{decimal};
-ghost use Rattle.std.specs.Prelude.{◌≡◌, ◌++◌, IfOk};
+ghost use Rattle.std.specs.Prelude.{◌≡◌, ◌++◌, IfOk, OnOk};
 
-use crate::error::WriteError;
 use crate::lines::{Items, Lines};
 use crate::output::{put, put_hex_32, put_hex_64, put_shown};
 use crate::place::Place;
 use reflect_wire::{UnknownField, UnknownFieldSet, UnknownFieldValue, WireError};
-use std::alloc::Global;
-use std::fmt;
+use std::alloc::{AllocError, Global};
 
 /// The records that a payload spells, unless it is empty or spells none.
-fn inferred(alloc: Global, payload: &[u8]) -> Result<Option<UnknownFieldSet>, WriteError>
+fn inferred(alloc: Global, payload: &[u8]) -> Result<Option<UnknownFieldSet>, AllocError>
     ensures { IfOk result (Infers payload.now) }
 {
     if payload.is_empty() {
@@ -31,20 +29,20 @@ fn inferred(alloc: Global, payload: &[u8]) -> Result<Option<UnknownFieldSet>, Wr
     }
     match UnknownFieldSet::decode(alloc, payload) {
         Ok(records) => Ok(Some(records)),
-        Err(WireError::Memory) => Err(WriteError::Memory),
+        Err(WireError::Memory) => Err(AllocError),
         Err(_) => Ok(None),
     }
 }
 
-impl<W: fmt::Write> Lines<W> {
+impl Lines {
     /// A record with its number.
     #[cycle(unknown)]
-    pub fn unknown_field(&mut self, record: &UnknownField, at: Place) -> Result<(), WriteError>
-        ensures text { WritesOne W.write_str_gives self.old.output result
+    pub fn unknown_field(&mut self, record: &UnknownField, at: Place) -> Result<(), AllocError>
+        ensures text { OnOk result (AddsOneOf self.old.output
             (IsRecordText self.old.options.pretty
             (IsPayloadText at.payloads self.old.options.pretty) at.indent
             (field_view «record».now))
-            self.new.output }
+            self.new.output) }
         ensures form { self.new.options ≡ self.old.options }
     {
         put_shown(&mut self.output, record.number())?;
@@ -53,12 +51,12 @@ impl<W: fmt::Write> Lines<W> {
 
     /// What stands behind a record's number.
     #[cycle(unknown)]
-    fn unknown_value(&mut self, value: &UnknownFieldValue, at: Place) -> Result<(), WriteError>
-        ensures text { WritesOne W.write_str_gives self.old.output result
+    fn unknown_value(&mut self, value: &UnknownFieldValue, at: Place) -> Result<(), AllocError>
+        ensures text { OnOk result (AddsOneOf self.old.output
             (IsValueText self.old.options.pretty
             (IsPayloadText at.payloads self.old.options.pretty) at.indent
             (payload_view value.now))
-            self.new.output }
+            self.new.output) }
         ensures form { self.new.options ≡ self.old.options }
     {
         match value {
@@ -70,27 +68,27 @@ impl<W: fmt::Write> Lines<W> {
         }
     }
 
-    fn varint(&mut self, value: u64) -> Result<(), WriteError>
-        ensures text { Writes W.write_str_gives self.old.output result
-            (colon self.old.options.pretty ++ decimal value) self.new.output }
+    fn varint(&mut self, value: u64) -> Result<(), AllocError>
+        ensures text { OnOk result (Adds self.old.output
+            (colon self.old.options.pretty ++ decimal value) self.new.output) }
         ensures form { self.new.options ≡ self.old.options }
     {
         self.colon()?;
         put_shown(&mut self.output, value)
     }
 
-    fn fixed_32(&mut self, value: u32) -> Result<(), WriteError>
-        ensures text { Writes W.write_str_gives self.old.output result
-            (colon self.old.options.pretty ++ hexadecimal 8 value) self.new.output }
+    fn fixed_32(&mut self, value: u32) -> Result<(), AllocError>
+        ensures text { OnOk result (Adds self.old.output
+            (colon self.old.options.pretty ++ hexadecimal 8 value) self.new.output) }
         ensures form { self.new.options ≡ self.old.options }
     {
         self.colon()?;
         put_hex_32(&mut self.output, value)
     }
 
-    fn fixed_64(&mut self, value: u64) -> Result<(), WriteError>
-        ensures text { Writes W.write_str_gives self.old.output result
-            (colon self.old.options.pretty ++ hexadecimal 16 value) self.new.output }
+    fn fixed_64(&mut self, value: u64) -> Result<(), AllocError>
+        ensures text { OnOk result (Adds self.old.output
+            (colon self.old.options.pretty ++ hexadecimal 16 value) self.new.output) }
         ensures form { self.new.options ≡ self.old.options }
     {
         self.colon()?;
@@ -99,10 +97,10 @@ impl<W: fmt::Write> Lines<W> {
 
     /// A payload: as records where it spells some, else as a string.
     #[cycle(unknown)]
-    fn payload(&mut self, payload: &[u8], at: Place) -> Result<(), WriteError>
-        ensures text { WritesOne W.write_str_gives self.old.output result
+    fn payload(&mut self, payload: &[u8], at: Place) -> Result<(), AllocError>
+        ensures text { OnOk result (AddsOneOf self.old.output
             (IsPayloadText at.payloads self.old.options.pretty at.indent payload.now)
-            self.new.output }
+            self.new.output) }
         ensures form { self.new.options ≡ self.old.options }
     {
         if let Some(payloads) = at.payloads.checked_sub(1) {
@@ -120,9 +118,9 @@ impl<W: fmt::Write> Lines<W> {
     }
 
     /// Bytes behind a number.
-    fn bytes(&mut self, bytes: &[u8]) -> Result<(), WriteError>
-        ensures text { Writes W.write_str_gives self.old.output result
-            (colon self.old.options.pretty ++ quoted bytes.now) self.new.output }
+    fn bytes(&mut self, bytes: &[u8]) -> Result<(), AllocError>
+        ensures text { OnOk result (Adds self.old.output
+            (colon self.old.options.pretty ++ quoted bytes.now) self.new.output) }
         ensures form { self.new.options ≡ self.old.options }
     {
         self.colon()?;
@@ -131,12 +129,12 @@ impl<W: fmt::Write> Lines<W> {
 
     /// Records in braces behind a number.
     #[cycle(unknown)]
-    fn group(&mut self, records: &UnknownFieldSet, at: Place) -> Result<(), WriteError>
-        ensures text { WritesOne W.write_str_gives self.old.output result
+    fn group(&mut self, records: &UnknownFieldSet, at: Place) -> Result<(), AllocError>
+        ensures text { OnOk result (AddsOneOf self.old.output
             (IsValueText self.old.options.pretty
             (IsPayloadText at.payloads self.old.options.pretty) at.indent
             (group (set_view records.now)))
-            self.new.output }
+            self.new.output) }
         ensures form { self.new.options ≡ self.old.options }
     {
         self.padding()?;
@@ -145,12 +143,12 @@ impl<W: fmt::Write> Lines<W> {
 
     /// Records in braces.
     #[cycle(unknown)]
-    fn braced_records(&mut self, records: &UnknownFieldSet, at: Place) -> Result<(), WriteError>
-        ensures text { WritesOne W.write_str_gives self.old.output result
+    fn braced_records(&mut self, records: &UnknownFieldSet, at: Place) -> Result<(), AllocError>
+        ensures text { OnOk result (AddsOneOf self.old.output
             (IsBraced self.old.options.pretty
             (IsPayloadText at.payloads self.old.options.pretty) at.indent
             (set_view records.now))
-            self.new.output }
+            self.new.output) }
         ensures form { self.new.options ≡ self.old.options }
     {
         put(&mut self.output, "{")?;

@@ -4,5 +4,5 @@ use Rattle.reflect_print.proofs.EnumNames.{value_named}
 use Rattle.reflect_print.proofs.messages.enum_text.Goals as goal
 
 pub returns-in-Some-clause-text : goal.returns-in-Some-clause-text
-returns-in-Some-clause-text g c =
-    one_text _ _ _ _ _ _ (value_named _ c.in-Some-Enum.descriptor c.in-Some.value _ _ (search rules) (search rules) (search rules) c.name.ensures) c.put.ensures.text
+returns-in-Some-clause-text c =
+    one_text _ _ _ _ _ (value_named _ c.in-Some-Enum.descriptor c.in-Some.value _ _ (search rules) (search rules) (search rules) c.name.ensures) c.put.ensures.text

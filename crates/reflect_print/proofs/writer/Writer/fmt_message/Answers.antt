@@ -1,19 +1,12 @@
-use Rattle.text_lines.proofs.Lent.{failed, same_failed, written}
+use Rattle.std.proofs.Common.{rules, ◌≡◌, string_bytes, subst}
+use Rattle.reflect_print.specs.MessageTexts.{IsMessageText}
+use Rattle.reflect_print.proofs.Whole.{output_refused}
 use Rattle.reflect_print.proofs.writer.Writer.fmt_message.Goals as goal
-
-pub returns-in_err-items-clause-text : goal.returns-in_err-items-clause-text
-returns-in_err-items-clause-text g c =
-    failed g.W.Write.write_str_gives _ _ _ _ _ c.from_residual.ensures.1 c.in_err-items.ensures.text
 
 pub returns-clause-text : goal.returns-clause-text
 returns-clause-text g c =
-    let w = c.in_ok-items.ensures.text in
-    (w.0, (c.in_ok-items.field-0, w.1), (written g.W.Write.write_str_gives _ _ w.0 w.2).0)
+    let lent : string_bytes c.in_ok-text.text ≡ c.as_str.result.now = search rules in
+    (c.as_str.result.now, subst (IsMessageText c.args.self.now.options c.args.message.now) lent c.in_ok-text.ensures.text, search rules)
 
-pub returns-clause-same : goal.returns-clause-same
-returns-clause-same g c =
-    let w = c.in_ok-items.ensures.text in (written g.W.Write.write_str_gives _ _ w.0 w.2).1
-
-pub returns-in_err-items-clause-same : goal.returns-in_err-items-clause-same
-returns-in_err-items-clause-same g c =
-    same_failed g.W.Write.write_str_gives _ _ _ _ c.from_residual.ensures.1 c.in_err-items.ensures.text
+pub returns-in_err-write_str-clause-memory : goal.returns-in_err-write_str-clause-memory
+returns-in_err-write_str-clause-memory g c = output_refused _ _ c.from_residual-in_err-write_str.ensures.1

@@ -1,5 +1,5 @@
-use Rattle.text_lines.proofs.Appending.{writes_on}
+use Rattle.text_lines.proofs.Appending.{adds_on}
 use Rattle.text_lines.proofs.lines.Lines.varint.Goals as goal
 
 pub returns-clause-text : goal.returns-clause-text
-returns-clause-text g c = writes_on _ _ _ _ c.in_ok-colon.ensures.text c.put_shown.ensures
+returns-clause-text c = adds_on _ _ _ _ _ c.in_ok-colon.ensures.text c.put_shown.ensures

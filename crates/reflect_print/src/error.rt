@@ -1,5 +1,5 @@
 ghost use Rattle.std.specs.Prelude.{◌≡◌, Some};
-ghost use Rattle.text_lines.specs.Errors.{said};
+ghost use Rattle.reflect_print.specs.Errors.{said};
 
 use std::alloc::{AllocError, AllocFailed};
 use std::error::Error;
@@ -8,7 +8,7 @@ use std::fmt;
 /// Why a text was not written.
 #[derive(Clone, Copy, PartialEq, Eq, Debug)]
 pub enum WriteError {
-    /// The writer refused.
+    /// The output refused the text, which it was given whole.
     Format,
     /// Want of memory.
     Memory,
@@ -36,7 +36,7 @@ impl fmt::Display for WriteError {
 impl Error for WriteError {}
 
 impl From<fmt::Error> for WriteError {
-    ghost use Rattle.text_lines.specs.declared.error.WriteError.TheVariants.{Format};
+    ghost use Rattle.reflect_print.specs.declared.error.WriteError.TheVariants.{Format};
 
     ghost from_gives = { λ _ e. e ≡ Format };
 
@@ -46,7 +46,7 @@ impl From<fmt::Error> for WriteError {
 }
 
 impl From<AllocError> for WriteError {
-    ghost use Rattle.text_lines.specs.declared.error.WriteError.TheVariants.{Memory};
+    ghost use Rattle.reflect_print.specs.declared.error.WriteError.TheVariants.{Memory};
 
     ghost from_gives = { λ _ e. e ≡ Memory };
 
@@ -56,7 +56,7 @@ impl From<AllocError> for WriteError {
 }
 
 impl<T: Drop> From<AllocFailed<T>> for WriteError {
-    ghost use Rattle.text_lines.specs.declared.error.WriteError.TheVariants.{Memory};
+    ghost use Rattle.reflect_print.specs.declared.error.WriteError.TheVariants.{Memory};
 
     ghost from_gives = { λ _ e. e ≡ Memory };
 
