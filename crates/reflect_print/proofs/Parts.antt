@@ -1,6 +1,7 @@
 -- The parts of messages' texts, put together.
-use Rattle.std.proofs.Common.{◌≡◌, ◌⊎◌, ℕ, ◌+◌, ◌-◌, Bool, true, false, List, [], ◌∷◌, ◌++◌, None, Some, codes, subst, sym, ap, ap₂, ◌∙◌, refl}
+use Rattle.std.proofs.Common.{◌≡◌, ◌⊎◌, ℕ, ◌+◌, ◌-◌, Bool, true, false, List, [], ◌∷◌, ◌++◌, None, Some, codes, Result, IfOk, subst, sym, ap, ap₂, ◌∙◌, refl}
 use Rattle.std.proofs.lemmas.List.{append_assoc}
+use Rattle.std.proofs.lemmas.Result.{IfOk-weaker}
 use Rattle.reflect_tables.specs.Types.{PoolType, FieldType}
 use Rattle.reflect_scalar.specs.Keys.{key_view}
 use Rattle.reflect_scalar.specs.Singles.{Single}
@@ -12,6 +13,7 @@ use Rattle.reflect_message.specs.Names.{DynamicMessage, Value}
 use Rattle.text_lines.specs.Pieces.{before_item, bracketed, colon, last_line, padding}
 use Rattle.text_lines.specs.declared.options.FormatOptions.{FormatOptions}
 use Rattle.text_lines.specs.declared.place.Place.{Place}
+use Rattle.text_lines.proofs.Appending.{OneBehind}
 use Rattle.print_parts.specs.Entries.{field, extension}
 use Rattle.print_parts.specs.Expands.{Expands}
 use Rattle.reflect_print.specs.Named.{Named, named, label_of, value_kind}
@@ -125,6 +127,11 @@ pub url_named : (form first second third : FormatOptions) (payloads x less i : �
 url_named form first second third payloads x less i braces url name body before any e a b c f n l y is =
     subst (λ u. IsUrlText form payloads x i braces u body ((before_item first.pretty before any i ++ (bracketed name ++ padding second.pretty)) ++ y)) e
     (url_parts form first second third payloads x less i braces name body before any a b c f n l y is)
+
+-- texts that go with an answer, each one of those
+pub answer_as : {T E : Type 0} (r : Result T E) (Is Are : T → List ℕ → Type 0) (a b : List ℕ) → ((x : T) (y : List ℕ) → Is x y → Are x y)
+    → IfOk r (λ x. OneBehind a (Is x) b) → IfOk r (λ x. OneBehind a (Are x) b)
+answer_as r Is Are a b f = IfOk-weaker r (λ x. OneBehind a (Is x) b) (λ x. OneBehind a (Are x) b) (λ x q. (q.0, f x q.0 q.1, q.2))
 
 -- the one or the other
 pub items_expanded : (form : FormatOptions) (payloads x i : ℕ) (braces : Bool) (m : DynamicMessage) (url : List ℕ) (body : DynamicMessage) → MayExpand form x → Expands m (Some (url, body))

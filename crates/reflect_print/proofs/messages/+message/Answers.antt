@@ -1,5 +1,4 @@
 use Rattle.std.proofs.Common.{rules, arith, ◌≡◌, ◌-◌, ◌∷◌, [], List, ℕ, drop, None, Some, true, false, map, ap, ◌∙◌, refl, subst, string_bytes}
-use Rattle.std.proofs.lemmas.Result.{IfOk-weaker}
 use Rattle.reflect_contents.specs.Walked.{field_lent, fields_left, of_message, set_fields_of}
 use Rattle.text_lines.specs.declared.place.Place.{Place}
 use Rattle.text_lines.specs.declared.options.FormatOptions.{FormatOptions}
@@ -20,7 +19,7 @@ use Rattle.print_parts.specs.Parts.{declared_entry, other_entry}
 use Rattle.reflect_print.specs.Written.{IsExpansion}
 use Rattle.reflect_print.proofs.Loops.{begun, next_one, all_of, drop_end, drop_item}
 use Rattle.reflect_print.proofs.NamedKinds.{given_held, kind_named}
-use Rattle.reflect_print.proofs.Parts.{named_parts, under_parts, field_parts, extension_parts, list_value, map_value, pair_parts, braced_parts, url_named, items_expanded, items_listed}
+use Rattle.reflect_print.proofs.Parts.{named_parts, under_parts, field_parts, extension_parts, list_value, map_value, pair_parts, braced_parts, url_named, answer_as, items_expanded, items_listed}
 use Rattle.reflect_print.proofs.Spans.{given_entry, given_all, span_begun, span_more, span_whole, both_spans, entry_as, pair_as}
 use Rattle.reflect_print.proofs.messages.+message.Goals as goal
 
@@ -92,7 +91,7 @@ items-returns-in_ok-expansion-in-Some-clause-text t c =
 pub items-returns-in-None-clause-text : goal.items-returns-in-None-clause-text
 items-returns-in-None-clause-text t c =
     let none : IsExpansion c.args.lines.now.options c.args.at.expansions c.args.message.now None = search rules in
-    IfOk-weaker c.entries.result _ _ (λ any w. (w.0, items_listed _ _ _ _ _ _ none any w.0 w.1, w.2)) c.entries.ensures.text
+    answer_as _ _ _ _ _ (items_listed _ _ _ _ _ _ none) c.entries.ensures.text
 
 pub list-each-init : goal.list-each-init
 list-each-init t c = record {
