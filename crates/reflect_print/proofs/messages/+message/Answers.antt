@@ -25,10 +25,11 @@ use Rattle.reflect_print.proofs.messages.+message.Goals as goal
 
 pub braced_message-returns-clause-text : goal.braced_message-returns-clause-text
 braced_message-returns-clause-text t c =
+    let old = string_bytes c.args.lines.now.output in
     let written = c.in_ok-any.ensures.text in
-    one_before _ _ _ _ _ _
+    one_before _ _ old _ _ _
     (braced_parts _ _ _ c.args.at c.in_ok-inner.inner _ _ _ c.in_ok-put.ensures.form (c.in_ok-any.ensures.form ∙ c.in_ok-put.ensures.form) c.in_ok-inner.ensures.place written.1)
-    (adds_both _ _ _ _ c.in_ok-put.ensures.text written.2) c.close.ensures.text
+    (adds_both old _ _ _ c.in_ok-put.ensures.text written.2) c.close.ensures.text
 
 pub chosen_fields-each-init : goal.chosen_fields-each-init
 chosen_fields-each-init t c =
@@ -54,11 +55,14 @@ entries-returns-clause-text t c = both_spans _ _ _ _ _ _ _ _ _ _ _ _ _ c.new-ite
 
 pub entry_value-returns-clause-text : goal.entry_value-returns-clause-text
 entry_value-returns-clause-text t c =
-    one_on _ _ _ _ _ _ (under_parts _ _ _ _ _ _ _ _ _ _ refl (c.in_ok-put.ensures.form ∙ c.in_ok-next_item.ensures.form) (ap (λ i. i.in_braces) c.requires) (ap (λ i. i.any) c.requires))
-    (adds_both _ _ _ _ c.in_ok-next_item.ensures.text c.in_ok-put.ensures.text) c.named_value.ensures.text
+    let old = string_bytes c.args.lines.now.output in
+    one_on _ _ _ old _ _ (under_parts _ _ _ _ _ _ _ _ _ _ refl (c.in_ok-put.ensures.form ∙ c.in_ok-next_item.ensures.form) (ap (λ i. i.in_braces) c.requires) (ap (λ i. i.any) c.requires))
+    (adds_both old _ _ _ c.in_ok-next_item.ensures.text c.in_ok-put.ensures.text) c.named_value.ensures.text
 
 pub expansion-returns-clause-text : goal.expansion-returns-clause-text
 expansion-returns-clause-text t c =
+    let old = string_bytes c.args.lines.now.output in
+    let begun_at = string_bytes c.next_item.new.self.output in
     let form = c.args.lines.now.options in
     let at = c.args.at in
     let same = c.in_ok-put_bracketed.ensures.form ∙ c.in_ok-next_item.ensures.form in
@@ -67,11 +71,11 @@ expansion-returns-clause-text t c =
     let less_left = c.saturating_sub.result in
     let outside : (f : FormatOptions) (y : List ℕ) → IsBracedText f c.read.result.payloads less_left c.read.result.indent body y → IsBracedText f at.payloads less_left at.indent body y =
     λ f y is. subst (λ (p : Place). IsBracedText f p.payloads less_left p.indent body y) c.read.ensures.place is in
-    one_on _ _ _ _ _ _
+    one_on _ _ _ old _ _
     (λ y is.
     url_named form _ _ _ at.payloads at.expansions less_left at.indent c.args.in_braces _ c.url.result.now body _ _ c.url.ensures refl same (c.in_ok-padding.ensures.form ∙ same) (ap (λ i. i.in_braces) c.new-items.ensures) (ap (λ i. i.any) c.new-items.ensures) less y
     (outside _ y is))
-    (adds_both _ _ _ _ c.in_ok-next_item.ensures.text (adds_both _ _ _ _ c.in_ok-put_bracketed.ensures.text c.in_ok-padding.ensures.text))
+    (adds_both old _ _ _ c.in_ok-next_item.ensures.text (adds_both begun_at _ _ _ c.in_ok-put_bracketed.ensures.text c.in_ok-padding.ensures.text))
     c.braced_message.ensures.text
 
 pub extension_text-returns-clause-text : goal.extension_text-returns-clause-text
@@ -178,12 +182,14 @@ others-returns-clause-text t c =
 
 pub pair-returns-clause-text : goal.pair-returns-clause-text
 pair-returns-clause-text t c =
+    let old = string_bytes c.args.lines.now.output in
+    let begun_at = string_bytes c.put.new.self.output in
     let key = c.in_ok-entry_key.ensures.text in
     let value = c.in_ok-entry_value.ensures.text in
     let same = c.in_ok-entry_key.ensures.form ∙ c.in_ok-put.ensures.form in
-    one_before _ _ _ _ _ _
+    one_before _ _ old _ _ _
     (pair_parts _ _ _ _ c.args.at c.in_ok-inner.inner _ _ _ _ _ c.in_ok-put.ensures.form same (c.in_ok-entry_value.ensures.form ∙ same) c.in_ok-inner.ensures.place key.1 value.1)
-    (adds_both _ _ _ _ c.in_ok-put.ensures.text (adds_both _ _ _ _ key.2 value.2)) c.close.ensures.text
+    (adds_both old _ _ _ c.in_ok-put.ensures.text (adds_both begun_at _ _ _ key.2 value.2)) c.close.ensures.text
 
 pub set_fields-each-init : goal.set_fields-each-init
 set_fields-each-init t c =
