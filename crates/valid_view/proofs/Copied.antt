@@ -1,18 +1,15 @@
 -- A copy of a message that sits does so too, where it is in order.
-use Rattle.std.proofs.Common.{◌≡◌, ℕ, zero, suc, List, [], ◌∷◌, map, Option, None, Some, option_map, refl, sym, ap, ◌∙◌, subst}
-use Rattle.std.specs.List.{AllByRecursion}
-use Rattle.std.specs.Prelude.{IfSome, IsTrue}
+use Rattle.std.proofs.Common.{◌≡◌, ℕ, zero, suc, Option, sym, ap, ◌∙◌, subst}
 use Rattle.reflect_tables.specs.Types.{FieldType, KindType, PoolType}
 use Rattle.reflect_pool.specs.Kinds.{IsKind}
 use Rattle.reflect_pool.specs.declared.kind.Kind.TheVariants as publics
 use Rattle.reflect_pool.specs.declared.message.MessageDescriptor.{MessageDescriptor}
-use Rattle.reflect_entries.specs.Entries.{value_at}
 use Rattle.reflect_scalar.specs.Singles.{Single}
 use Rattle.reflect_scalar.specs.declared.map_key.MapKey.{MapKey}
 use Rattle.reflect_message.specs.Contents.{Content, content_of}
-use Rattle.reflect_copies.specs.Copies.{AreCopies, IsCopy}
+use Rattle.reflect_copies.specs.Copies.{IsCopy}
 use Rattle.reflect_message.specs.Held.{choices_of, fields_of}
-use Rattle.reflect_copies.specs.InOrder.{IsInOrder, in_order}
+use Rattle.reflect_copies.specs.InOrder.{IsInOrder}
 use Rattle.reflect_message.specs.Known.{known_extension, known_field}
 use Rattle.reflect_message.specs.Names.{DynamicMessage, Value}
 use Rattle.reflect_message.specs.Oneofs.{AreChosen}
@@ -20,20 +17,18 @@ use Rattle.reflect_copies.specs.Trees.{ValueTree, entry_tree, tree}
 use Rattle.reflect_copies.proofs.Alike.{content_alike, message_alike}
 use Rattle.reflect_copies.proofs.Copying.{chosen_copied}
 use Rattle.reflect_copies.proofs.InOrder.{entries_below, items_below, message_below}
-use Rattle.reflect_decode.specs.Ordered.{AreInOrder, HoldsInOrder}
+use Rattle.reflect_decode.specs.Ordered.{HoldsInOrder}
 use Rattle.reflect_decode.proofs.InOrder.{message_tells}
 use Rattle.reflect_numbered.specs.Fits.{is_one}
 use Rattle.protobuf_model.specs.Meaning.{payloads}
 use Rattle.merge_view.proofs.Shaped.{copy_ordered}
 use Rattle.merge_view.proofs.Trees.{entries_alike, items_alike, single_alike}
+use Rattle.valid_view.proofs.AlikeParts.{Sorted, entries_hold, items_hold, place_holds}
 use Rattle.valid_view.proofs.LeftOnes.{EntryLeft, OneLeft, WholeLeft, left_list, left_map, left_one, message_left, single_left}
 use Rattle.valid_view.proofs.Sitting.{Both, IsOf, Sits, both_sits, sits_both}
 
-abbrev Sorted : Value → Type 0
-Sorted v = IsTrue (in_order v)
-
 -- what is known of copies of messages inside
-abbrev Copies : (DynamicMessage → Type 0) → Type 0
+abbrev pub Copies : (DynamicMessage → Type 0) → Type 0
 Copies Q = (m n : DynamicMessage) → n.descriptor ≡ m.descriptor → IsCopy (content_of m) (content_of n) → IsInOrder n → Q m → Q n
 
 module _ (Q : DynamicMessage → Type 0) (copies : Copies Q) (pool : PoolType) where
@@ -44,50 +39,30 @@ module _ (Q : DynamicMessage → Type 0) (copies : Copies Q) (pool : PoolType) w
       message_left n.0 n.1 (subst (λ (d : MessageDescriptor). IsKind pool (publics.Message d) t) (sym n.2) kind)
       (copies m n.0 n.2 (content_alike m n.0 n.3) (message_below w sorted n.0 n.1) q)
 
-  items_copied : (t : KindType) (vs ws : List Value) → map tree ws ≡ map tree vs → AllByRecursion Sorted ws → AllByRecursion (OneLeft Q pool t) vs → AllByRecursion (OneLeft Q pool t) ws
-  items_copied t vs [] same sorted all = tt
-  items_copied t [] (w ∷ ws) same sorted all = absurd (cc same)
-  items_copied t (v ∷ vs) (w ∷ ws) same sorted all =
-      let here : tree w ≡ tree v = cc same in
-      let rest : map tree ws ≡ map tree vs = cc same in
-      (one_copied t v w here sorted.0 all.0, items_copied t vs ws rest sorted.1 all.1)
-
-  entries_copied : (keys values : KindType) (es gs : List (MapKey × Value)) → map entry_tree gs ≡ map entry_tree es → AllByRecursion (λ (g : MapKey × Value). Sorted g.1) gs
-      → AllByRecursion (EntryLeft Q pool keys values) es → AllByRecursion (EntryLeft Q pool keys values) gs
-  entries_copied keys values es [] same sorted all = tt
-  entries_copied keys values [] (g ∷ gs) same sorted all = absurd (cc same)
-  entries_copied keys values (e ∷ es) (g ∷ gs) same sorted all =
-      let here : entry_tree g ≡ entry_tree e = cc same in
-      let rest : map entry_tree gs ≡ map entry_tree es = cc same in
-      let key = ap (λ (p : Single × ValueTree). is_one keys p.0) here in
-      let value : tree g.1 ≡ tree e.1 = ap (λ (p : Single × ValueTree). p.1) here in
-      ((key ∙ all.0.0, one_copied values e.1 g.1 value sorted.0 all.0.1), entries_copied keys values es gs rest sorted.1 all.1)
+  entry_copied : (keys values : KindType) (e g : MapKey × Value) → entry_tree g ≡ entry_tree e → Sorted g.1 → EntryLeft Q pool keys values e → EntryLeft Q pool keys values g
+  entry_copied keys values e g same sorted was =
+      let key = ap (λ (p : Single × ValueTree). is_one keys p.0) same in
+      let value : tree g.1 ≡ tree e.1 = ap (λ (p : Single × ValueTree). p.1) same in
+      (key ∙ was.0, one_copied values e.1 g.1 value sorted was.1)
 
   whole_copied : (f : FieldType) (v w : Value) → tree w ≡ tree v → Sorted w → WholeLeft Q pool f v → WholeLeft Q pool f w
   whole_copied f v w e sorted (left_one no_map once one) = left_one no_map once (one_copied f.kind v w e sorted one)
   whole_copied f v w e sorted (left_list no_map repeats vs at all) =
       let its = items_alike v w e vs at in
-      left_list no_map repeats its.0 its.1 (items_copied f.kind vs its.0 its.2 (items_below w sorted its.0 its.1) all)
+      left_list no_map repeats its.0 its.1 (items_hold (OneLeft Q pool f.kind) (one_copied f.kind) vs its.0 its.2 (items_below w sorted its.0 its.1) all)
   whole_copied f v w e sorted (left_map is_map es at keys values first second all) =
       let its = entries_alike v w e es at in
-      left_map is_map its.0 its.1 keys values first second (entries_copied keys.kind values.kind es its.0 its.2 (entries_below w sorted its.0 its.1) all)
+      left_map is_map its.0 its.1 keys values first second
+      (entries_hold (EntryLeft Q pool keys.kind values.kind) (entry_copied keys.kind values.kind) es its.0 its.2 (entries_below w sorted its.0 its.1) all)
 
   -- of what stands under a number
-  held_copied : (o : Option Value) (w : Value) → option_map tree (Some w) ≡ option_map tree o → Sorted w → (its : Option FieldType) → ((v : Value) → o ≡ Some v → IsOf Q pool its v) → IsOf Q pool its w
-  held_copied None w e sorted its held = absurd (cc e)
-  held_copied (Some v) w e sorted its held =
-      let same : tree w ≡ tree v = cc e in
-      let was = held v refl in
-      (was.0, was.1, whole_copied was.0 v w same sorted was.2)
-
-  place_copied : (es gs : List (ℕ × Value)) → AreCopies es gs → AreInOrder gs → (its : Option FieldType) (n : ℕ) → ((v : Value) → value_at es n ≡ Some v → IsOf Q pool its v) → (w : Value) → value_at gs n ≡ Some w → IsOf Q pool its w
-  place_copied es gs copied sorted its n held w at =
-      held_copied (value_at es n) w (sym (ap (option_map tree) at) ∙ copied n) (subst (λ o. IfSome o Sorted) at (sorted.each n)) its held
+  held_copied : (its : Option FieldType) (v w : Value) → tree w ≡ tree v → Sorted w → IsOf Q pool its v → IsOf Q pool its w
+  held_copied its v w e sorted was = (was.0, was.1, whole_copied was.0 v w e sorted was.2)
 
 pub copy_sits : (Q : DynamicMessage → Type 0) → Copies Q → (d : MessageDescriptor) (old copy : Content) → IsCopy old copy → HoldsInOrder copy → Sits Q d old → Sits Q d copy
 copy_sits Q copies d old copy copied sorted sits = record {
-  fields = λ n. place_copied Q copies d.pool.now old.fields copy.fields copied.fields sorted.fields (known_field d.pool.now d.index n) n (sits.fields n);
-  extensions = λ n. place_copied Q copies d.pool.now old.extensions copy.extensions copied.extensions sorted.extensions (known_extension d.pool.now d.index n) n (sits.extensions n);
+  fields = λ n. place_holds (IsOf Q d.pool.now (known_field d.pool.now d.index n)) (held_copied Q copies d.pool.now (known_field d.pool.now d.index n)) old.fields copy.fields copied.fields sorted.fields n (sits.fields n);
+  extensions = λ n. place_holds (IsOf Q d.pool.now (known_extension d.pool.now d.index n)) (held_copied Q copies d.pool.now (known_extension d.pool.now d.index n)) old.extensions copy.extensions copied.extensions sorted.extensions n (sits.extensions n);
   ordered = copy_ordered old copy copied sorted sits.ordered;
   declared = λ n is. ap (payloads n) copied.unknown ∙ sits.declared n is;
 }

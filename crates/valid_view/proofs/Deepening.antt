@@ -12,7 +12,7 @@ use Rattle.valid_view.specs.Inside.{EachMessage, IfMessage}
 use Rattle.valid_view.specs.Tidy.{OfHeld, Solid, Tidy}
 
 mutual
-  payload_deeper : (levels deeper : ℕ) → levels ≤ deeper → (p : Payload) → FitsPayload levels p → FitsPayload deeper p
+  pub payload_deeper : (levels deeper : ℕ) → levels ≤ deeper → (p : Payload) → FitsPayload levels p → FitsPayload deeper p
   payload_deeper levels deeper le (varint v) h = h
   payload_deeper levels deeper le (fixed64 v) h = h
   payload_deeper levels deeper le (delimited p) h = h
@@ -28,7 +28,7 @@ module _ (P Q : DynamicMessage → Type 0) (weaker : (m : DynamicMessage) → P 
   one_weaker : (v : Value) → IfMessage P v → IfMessage Q v
   one_weaker v p m at = weaker m (p m at)
 
-  each_weaker : (v : Value) → EachMessage P v → EachMessage Q v
+  pub each_weaker : (v : Value) → EachMessage P v → EachMessage Q v
   each_weaker v p = record {
     itself = one_weaker v p.itself;
     items = λ vs at. all_map (IfMessage P) (IfMessage Q) vs one_weaker (p.items vs at);

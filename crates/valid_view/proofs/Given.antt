@@ -73,7 +73,7 @@ default_one how pool sound t n g keyed there whole v h = by (sort_of g.kind) whe
       let m = h.1 type in
       one_message m.0 m.1 (kind_deep how pool how g.kind m.0 (its_type pool g.kind m.0.descriptor m.2.0.0 m.2.0.1) (empty_typed how m.0 m.2.1))
 
-scalar_whole : (t : KindType) → IsScalarType t → is_float t ≡ false
+pub scalar_whole : (t : KindType) → IsScalarType t → is_float t ≡ false
 scalar_whole types.double h = absurd h
 scalar_whole types.float h = absurd h
 scalar_whole t h = refl
@@ -96,7 +96,7 @@ held_one how m typed n g there once u at =
 module _ (pool : PoolType) (sound : IsSound pool) (f : FieldType) (keyed : is_entry pool f.kind ≡ true) (keys values : FieldType) (first : entry_field pool f.kind 1 ≡ Some keys) (second : entry_field pool f.kind 2 ≡ Some values)
     (whole : is_float values.kind ≡ false) where
   -- what holds of the entry of each message of the entries' type
-  of_pair : (P : Entry → Type 0) (v : Value) → (fit_of v).one Surface pool f.kind ≡ true
+  pub of_pair : (P : Entry → Type 0) (v : Value) → (fit_of v).one Surface pool f.kind ≡ true
       → ((m : DynamicMessage) → message_in v ≡ Some m → f.kind ≡ types.message m.descriptor.index → (s : StoredEntry) → (type_at m.descriptor.pool.now m.descriptor.index).entry ≡ Some s
       → (e : Entry) → GivesPair m.descriptor.pool.now (type_of_field m.descriptor.pool.now m.descriptor.index s.key) (type_of_field m.descriptor.pool.now m.descriptor.index s.value) (fields_of m) (Some e) → P e)
       → (e : Entry) → GivesOneEntry v (Some e) → P e
@@ -109,7 +109,7 @@ module _ (pool : PoolType) (sound : IsSound pool) (f : FieldType) (keyed : is_en
       told (Some s) is h = each m there (message_is pool f.kind v m (one_of Surface pool f.kind v valid) there) s is e h
 
   -- a field of the entries' type as a message of it has it
-  as_part : (m : DynamicMessage) → m.descriptor.pool.now ≡ pool → f.kind ≡ types.message m.descriptor.index → (n : ℕ) (g : FieldType)
+  pub as_part : (m : DynamicMessage) → m.descriptor.pool.now ≡ pool → f.kind ≡ types.message m.descriptor.index → (n : ℕ) (g : FieldType)
       → entry_field pool f.kind n ≡ Some g → numbered_field m.descriptor.pool.now m.descriptor.index n ≡ Some g
   as_part m pooled kind n g there = ap (λ p. numbered_field p m.descriptor.index n) pooled ∙ sym (ap (λ t. entry_field pool t n) kind) ∙ there
 

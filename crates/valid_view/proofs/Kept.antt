@@ -106,7 +106,7 @@ module _ (levels : ℕ) (old new : DynamicMessage) (solid : Solid (suc levels) o
   abbrev RecordsFit : List (ℕ × Payload) → ℕ → Type 0
   RecordsFit rs n = AllByRecursion (FitsPayload levels) (payloads n rs)
 
-  still_fit : unknown_of new ≡ unknown_of old → (n : ℕ) → RecordsFit (unknown_of old) n → RecordsFit (unknown_of new) n
+  pub still_fit : unknown_of new ≡ unknown_of old → (n : ℕ) → RecordsFit (unknown_of old) n → RecordsFit (unknown_of new) n
   still_fit same n fit = subst (λ (rs : List (ℕ × Payload)). RecordsFit rs n) (sym same) fit
 
   pub set_solid : (f : FieldDescriptor) (v : Value) → IsWhole v → Inside v → SetsField old new f v → Solid (suc levels) new

@@ -1,14 +1,21 @@
+mod AlikeParts
 pub mod Behind
+mod Bits
 mod Copied
 pub mod Decoded
 mod Deep
 mod Deepening
 mod Entries
 mod Extended
+mod ExtendedSolid
 mod ExtendedTidy
+mod Filling
+mod Firm
+mod FirmCopies
 pub mod Fitting
 mod Given
 mod Kept
+mod KeyOrder
 mod Leaving
 mod LeftOnes
 mod LeftValues
@@ -18,6 +25,7 @@ mod Parts
 mod Passing
 mod Setting
 mod Sitting
+mod Solidly
 mod Staying
 mod Stemming
 mod Suiting

@@ -34,7 +34,7 @@ module _ (P Q : DynamicMessage → Type 0) where
   both_entries [] p q = tt
   both_entries (e ∷ es) p q = ((λ m at. (p.0 m at, q.0 m at)), both_entries es p.1 q.1)
 
-  both_each : (v : Value) → EachMessage P v → EachMessage Q v → EachMessage Both v
+  pub both_each : (v : Value) → EachMessage P v → EachMessage Q v → EachMessage Both v
   both_each v p q = record {
     itself = λ m at. (p.itself m at, q.itself m at);
     items = λ vs at. both_items vs (p.items vs at) (q.items vs at);

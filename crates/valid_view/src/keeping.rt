@@ -14,6 +14,7 @@ ghost use Rattle.reflect_pool.specs.declared.field.FieldDescriptor.{FieldDescrip
 ghost use Rattle.reflect_pool.specs.declared.message.MessageDescriptor.{MessageDescriptor};
 ghost use Rattle.reflect_scalar.specs.FieldTypes.{extension_type};
 ghost use Rattle.reflect_tables.specs.Types.{PoolType};
+ghost use Rattle.reflect_wire.specs.Written.{AreBytes};
 ghost use Rattle.message_view.specs.Sound.{IsSound};
 ghost use Rattle.message_view.specs.Taken.{TakesOut};
 ghost use Rattle.valid_view.specs.Inside.{EachMessage, IsWhole};
@@ -27,10 +28,14 @@ pub fn empty_messages_are_tidy()
         → Solid (suc levels) m }
 {}
 
-/// A message that was decoded is tidy, with 100 levels of messages below it at most.
+/// A message that was decoded is tidy, with 100 levels of messages below it at most, and what it
+/// holds is whole. That bytes are below 256 `slices_are_of_bytes` says.
 pub fn decoded_messages_are_tidy()
-    ensures { (d : MessageDescriptor) → IsSound d.pool.now → (bytes : List ℕ) (m : DynamicMessage)
+    ensures tidy { (d : MessageDescriptor) → IsSound d.pool.now → (bytes : List ℕ)
+        → (m : DynamicMessage)
         → m.descriptor ≡ d → IsExclusive m → IsSpelled d bytes m → Tidy d.pool.now 101 m }
+    ensures solid { (d : MessageDescriptor) → IsSound d.pool.now → (bytes : List ℕ)
+        → AreBytes bytes → (m : DynamicMessage) → IsSpelled d bytes m → Solid 101 m }
 {}
 
 /// What is so with some levels below is so with more.

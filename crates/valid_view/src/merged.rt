@@ -1,6 +1,7 @@
 //! Laws of messages into which bytes are merged, and of those whose lists and maps take further
-//! values: they suit their types at each depth, and are tidy, where they did and were. What such a
-//! call leaves where it is refused, its own contract says, or it is one that put fewer values.
+//! values: they suit their types at each depth, are tidy, and hold what is whole, where they did
+//! and were. What such a call leaves where it is refused, its own contract says, or it is one that
+//! put fewer values.
 ghost use Rattle.std.specs.Prelude.{◌≡◌, ◌≤◌, List, suc, true, ℕ};
 ghost use Rattle.std.specs.List.{AllByRecursion};
 ghost use Rattle.reflect_decode.specs.Spelled.{IsMerged};
@@ -21,11 +22,12 @@ ghost use Rattle.reflect_pool.specs.declared.extension.ExtensionDescriptor.{Exte
 ghost use Rattle.reflect_pool.specs.declared.field.FieldDescriptor.{FieldDescriptor};
 ghost use Rattle.reflect_scalar.specs.FieldTypes.{extension_type};
 ghost use Rattle.reflect_tables.specs.Types.{PoolType};
+ghost use Rattle.reflect_wire.specs.Written.{AreBytes};
 ghost use Rattle.message_view.specs.Sound.{IsSound};
 ghost use Rattle.set_view.specs.Extends.{ExtendsExtension, ExtendsField};
-ghost use Rattle.valid_view.specs.Given.{GivenWith, IsSuitedIn};
-ghost use Rattle.valid_view.specs.Inside.{IfMessage};
-ghost use Rattle.valid_view.specs.Tidy.{Tidy};
+ghost use Rattle.valid_view.specs.Given.{GivenWith, IsSolidIn, IsSuitedIn};
+ghost use Rattle.valid_view.specs.Inside.{IfMessage, IsWhole};
+ghost use Rattle.valid_view.specs.Tidy.{Solid, Tidy};
 
 /// A message that suits its type at each depth, and is tidy, of as many levels as bytes may have or
 /// more, does and is so behind `merge`, whatever the bytes. Where they are refused it is unchanged.
@@ -35,6 +37,15 @@ pub fn merged_messages_are_typed_and_tidy()
         → (bytes : List ℕ) → IsMerged old.descriptor bytes old new
         → suits_type Types old ≡ true → Tidy pool (suc levels) old
         → (suits_type Types new ≡ true) × Tidy pool (suc levels) new }
+{}
+
+/// A message that is tidy and solid, of as many levels as bytes may have or more, is solid behind
+/// `merge`, whatever the bytes, and whether or not it suits its type.
+pub fn merged_messages_are_solid()
+    ensures { (levels : ℕ) → 100 ≤ levels → (pool : PoolType) → IsSound pool
+        → (old new : DynamicMessage) (bytes : List ℕ) → AreBytes bytes
+        → IsMerged old.descriptor bytes old new
+        → Tidy pool (suc levels) old → Solid (suc levels) old → Solid (suc levels) new }
 {}
 
 /// A message that suits its type does so where `extend_field` puts values behind a list that are
@@ -134,4 +145,49 @@ pub fn extended_extensions_leave_messages_tidy()
         → Tidy pool (suc levels) old → IsExclusive new
         → (x : ExtensionDescriptor) → OwnsExtension old.descriptor x → ExtendsExtension old new x
         → extensions_of new ≡ extensions_of old → Tidy pool (suc levels) new }
+{}
+
+/// What a message holds is whole where it was, and `extend_field` puts values behind a list that
+/// are, each message one level below, whether or not they suit it, or entries into a map of which
+/// each is a message of the entries' type that is as solid as itself.
+pub fn extended_fields_leave_messages_solid()
+    ensures list { (levels : ℕ) (old new : DynamicMessage) → Solid (suc levels) old
+        → (f : FieldDescriptor) → ExtendsField old new f → (vs : List Value)
+        → AllByRecursion IsWhole vs → AllByRecursion (IfMessage (Solid levels)) vs
+        → Lengthens (value_at (fields_of old) (field_type f).number)
+        (value_at (fields_of new) (field_type f).number) vs
+        → KeepsOther (value_at (fields_of old) (field_type f).number)
+        (value_at (fields_of new) (field_type f).number) → Solid (suc levels) new }
+    ensures map { (pool : PoolType) → IsSound pool → (levels : ℕ) (old new : DynamicMessage)
+        → old.descriptor.pool.now ≡ pool → Solid (suc (suc levels)) old
+        → (f : FieldDescriptor) → Owns old.descriptor f → holds_map pool (field_type f) ≡ true
+        → ExtendsField old new f → (vs : List Value)
+        → AllByRecursion (GivenWith (IsSolidIn (suc (suc levels)) pool) pool (field_type f)) vs
+        → PutsEntries (value_at (fields_of old) (field_type f).number)
+        (value_at (fields_of new) (field_type f).number) vs → Solid (suc (suc levels)) new }
+    ensures neither { (levels : ℕ) (old new : DynamicMessage) → Solid (suc levels) old
+        → (f : FieldDescriptor) → ExtendsField old new f → fields_of new ≡ fields_of old
+        → Solid (suc levels) new }
+{}
+
+/// The same of `extend_extension`.
+pub fn extended_extensions_leave_messages_solid()
+    ensures list { (levels : ℕ) (old new : DynamicMessage) → Solid (suc levels) old
+        → (x : ExtensionDescriptor) → ExtendsExtension old new x → (vs : List Value)
+        → AllByRecursion IsWhole vs → AllByRecursion (IfMessage (Solid levels)) vs
+        → Lengthens (value_at (extensions_of old) (extension_type x).number)
+        (value_at (extensions_of new) (extension_type x).number) vs
+        → KeepsOther (value_at (extensions_of old) (extension_type x).number)
+        (value_at (extensions_of new) (extension_type x).number) → Solid (suc levels) new }
+    ensures map { (pool : PoolType) → IsSound pool → (levels : ℕ) (old new : DynamicMessage)
+        → old.descriptor.pool.now ≡ pool → Solid (suc (suc levels)) old
+        → (x : ExtensionDescriptor) → OwnsExtension old.descriptor x
+        → holds_map pool (extension_type x) ≡ true
+        → ExtendsExtension old new x → (vs : List Value)
+        → AllByRecursion (GivenWith (IsSolidIn (suc (suc levels)) pool) pool (extension_type x)) vs
+        → PutsEntries (value_at (extensions_of old) (extension_type x).number)
+        (value_at (extensions_of new) (extension_type x).number) vs → Solid (suc (suc levels)) new }
+    ensures neither { (levels : ℕ) (old new : DynamicMessage) → Solid (suc levels) old
+        → (x : ExtensionDescriptor) → ExtendsExtension old new x
+        → extensions_of new ≡ extensions_of old → Solid (suc levels) new }
 {}
