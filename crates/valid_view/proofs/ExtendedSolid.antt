@@ -1,5 +1,5 @@
 -- What messages hold whose lists and maps take further values is whole where it was, and where these are.
-use Rattle.std.proofs.Common.{◌≡◌, inl, ℕ, suc, ◌++◌, true, false, true≢false, List, [], Option, None, Some, refl, sym, ap, ◌∙◌, subst}
+use Rattle.std.proofs.Common.{◌≡◌, inl, ℕ, suc, ◌++◌, true, false, true≢false, List, Option, None, Some, refl, sym, ap, ◌∙◌, subst}
 use Rattle.std.specs.List.{AllByRecursion}
 use Rattle.std.specs.Prelude.{IfSome, MatchOption}
 use Rattle.reflect_tables.specs.Types.{FieldType, PoolType}
