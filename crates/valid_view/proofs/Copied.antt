@@ -1,5 +1,5 @@
 -- A copy of a message that sits does so too, where it is in order.
-use Rattle.std.proofs.Common.{◌≡◌, ℕ, zero, suc, Option, sym, ap, ◌∙◌, subst}
+use Rattle.std.proofs.Common.{◌≡◌, ℕ, zero, suc, true, Option, sym, ap, ◌∙◌, subst}
 use Rattle.reflect_tables.specs.Types.{FieldType, KindType, PoolType}
 use Rattle.reflect_pool.specs.Kinds.{IsKind}
 use Rattle.reflect_pool.specs.declared.kind.Kind.TheVariants as publics
@@ -19,10 +19,12 @@ use Rattle.reflect_copies.proofs.Copying.{chosen_copied}
 use Rattle.reflect_copies.proofs.InOrder.{entries_below, items_below, message_below}
 use Rattle.reflect_decode.specs.Ordered.{HoldsInOrder}
 use Rattle.reflect_decode.proofs.InOrder.{message_tells}
-use Rattle.reflect_numbered.specs.Fits.{is_one}
+use Rattle.reflect_numbered.specs.Fits.{is_one, suits_type}
+use Rattle.reflect_numbered.specs.declared.validity.Strictness.TheVariants.{Types}
 use Rattle.protobuf_model.specs.Meaning.{payloads}
 use Rattle.merge_view.proofs.Shaped.{copy_ordered}
 use Rattle.merge_view.proofs.Trees.{entries_alike, items_alike, single_alike}
+use Rattle.valid_view.specs.Tidy.{Tidy}
 use Rattle.valid_view.proofs.AlikeParts.{Sorted, entries_hold, items_hold, place_holds}
 use Rattle.valid_view.proofs.LeftOnes.{EntryLeft, OneLeft, WholeLeft, left_list, left_map, left_one, message_left, single_left}
 use Rattle.valid_view.proofs.Sitting.{Both, IsOf, Sits, both_sits, sits_both}
@@ -76,3 +78,7 @@ copies_both pool (suc levels) m n same copied sorted h =
     sits_both pool levels n (ap (λ (d : MessageDescriptor). d.pool.now) same ∙ h.1.0.pooled)
     (subst (λ (d : MessageDescriptor). AreChosen d (choices_of n) (fields_of n)) (sym same) chosen)
     (subst (λ (d : MessageDescriptor). Sits (Both pool levels) d (content_of n)) (sym same) its)
+
+pub copied_both : (pool : PoolType) (levels : ℕ) (old copy : DynamicMessage) → copy.descriptor ≡ old.descriptor → IsCopy (content_of old) (content_of copy) → IsInOrder copy → suits_type Types old ≡ true → Tidy pool levels old
+    → (suits_type Types copy ≡ true) × Tidy pool levels copy
+copied_both pool levels old copy same copied sorted typed tidy = copies_both pool levels old copy same copied sorted (typed, tidy)

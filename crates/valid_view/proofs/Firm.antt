@@ -196,7 +196,7 @@ module _ (pool : PoolType) where
     },
   )
 
-  firm_solid : (levels : ℕ) (m : DynamicMessage) → Firm pool levels m → Solid levels m
+  pub firm_solid : (levels : ℕ) (m : DynamicMessage) → Firm pool levels m → Solid levels m
   firm_solid zero m firm = absurd firm
   firm_solid (suc levels) m firm = one_solid levels (firm_solid levels) m firm.2
 

@@ -15,6 +15,7 @@ use Rattle.reflect_message.specs.Maps.{map_entries}
 use Rattle.reflect_message.specs.Names.{DynamicMessage, Value}
 use Rattle.reflect_message.specs.Oneofs.{AreChosen}
 use Rattle.reflect_copies.specs.Copies.{IsCopy}
+use Rattle.reflect_copies.specs.InOrder.{IsInOrder}
 use Rattle.reflect_copies.specs.Trees.{ValueTree, entry_tree, tree}
 use Rattle.reflect_copies.proofs.Alike.{content_alike, message_alike}
 use Rattle.reflect_copies.proofs.Copying.{chosen_copied}
@@ -25,9 +26,10 @@ use Rattle.protobuf_model.specs.Meaning.{payloads}
 use Rattle.merge_view.proofs.Shaped.{copy_ordered}
 use Rattle.merge_view.proofs.Trees.{entries_alike, items_alike, single_alike}
 use Rattle.valid_view.specs.Inside.{AreAscending}
+use Rattle.valid_view.specs.Tidy.{Solid, Tidy}
 use Rattle.valid_view.proofs.AlikeParts.{Sorted, entries_hold, items_hold, place_holds}
 use Rattle.valid_view.proofs.Copied.{Copies}
-use Rattle.valid_view.proofs.Firm.{Carries, Firm, FirmEntry, FirmIn, FirmOne, firm_by, firm_entries, firm_items, firm_one}
+use Rattle.valid_view.proofs.Firm.{Carries, Firm, FirmEntry, FirmIn, FirmOne, firm_by, firm_entries, firm_items, firm_one, firm_solid, solid_firm}
 use Rattle.valid_view.proofs.KeyOrder.{alike_ascend}
 
 module _ (Q : DynamicMessage → Type 0) (copies : Copies Q) where
@@ -75,3 +77,7 @@ copies_firm pool (suc levels) m n same copied sorted firm =
       subst (λ (d : MessageDescriptor). AreChosen d (choices_of n) (fields_of n)) (sym same) chosen,
       copy_carries (Firm pool levels) (copies_firm pool levels) levels (content_of m) (content_of n) copied (message_tells n sorted) firm.2,
     )
+
+pub copied_solid : (pool : PoolType) (levels : ℕ) (old copy : DynamicMessage) → copy.descriptor ≡ old.descriptor → IsCopy (content_of old) (content_of copy) → IsInOrder copy → Tidy pool levels old → Solid levels old → Solid levels copy
+copied_solid pool levels old copy same copied sorted tidy solid =
+    firm_solid pool levels copy (copies_firm pool levels old copy same copied sorted (solid_firm pool levels old tidy solid))

@@ -1,6 +1,8 @@
 //! Laws of calls that leave messages tidy, whatever they put, and what these hold as the types of
 //! the code have it. That of each oneof one member at most holds anything the calls themselves say.
-ghost use Rattle.std.specs.Prelude.{◌≡◌, ◌≤◌, List, None, Some, suc, ℕ};
+ghost use Rattle.std.specs.Prelude.{◌≡◌, ◌≤◌, List, None, Some, suc, true, ℕ};
+ghost use Rattle.reflect_copies.specs.Copies.{IsCopy};
+ghost use Rattle.reflect_copies.specs.InOrder.{IsInOrder};
 ghost use Rattle.reflect_decode.specs.Spelled.{IsSpelled};
 ghost use Rattle.reflect_entries.specs.Entries.{IsAscending};
 ghost use Rattle.reflect_message.specs.Contents.{content_of, nothing};
@@ -8,6 +10,8 @@ ghost use Rattle.reflect_message.specs.Declares.{Owns, OwnsExtension};
 ghost use Rattle.reflect_message.specs.Held.{UpdatesExtension, UpdatesField, fields_of};
 ghost use Rattle.reflect_message.specs.Names.{DynamicMessage, Value};
 ghost use Rattle.reflect_message.specs.Oneofs.{IsExclusive, SetsField};
+ghost use Rattle.reflect_numbered.specs.Fits.{suits_type};
+ghost use Rattle.reflect_numbered.specs.declared.validity.Strictness.TheVariants.{Types};
 ghost use Rattle.reflect_pool.specs.FieldsLeft.{field_type};
 ghost use Rattle.reflect_pool.specs.declared.extension.ExtensionDescriptor.{ExtensionDescriptor};
 ghost use Rattle.reflect_pool.specs.declared.field.FieldDescriptor.{FieldDescriptor};
@@ -36,6 +40,18 @@ pub fn decoded_messages_are_tidy()
         → m.descriptor ≡ d → IsExclusive m → IsSpelled d bytes m → Tidy d.pool.now 101 m }
     ensures solid { (d : MessageDescriptor) → IsSound d.pool.now → (bytes : List ℕ)
         → AreBytes bytes → (m : DynamicMessage) → IsSpelled d bytes m → Solid 101 m }
+{}
+
+/// A copy, as `clone` makes it, of a message that suits its type and is tidy does and is so, and of
+/// one that is tidy and solid is solid.
+pub fn copies_are_typed_and_tidy()
+    ensures both { (pool : PoolType) (levels : ℕ) (old copy : DynamicMessage)
+        → copy.descriptor ≡ old.descriptor → IsCopy (content_of old) (content_of copy)
+        → IsInOrder copy → suits_type Types old ≡ true → Tidy pool levels old
+        → (suits_type Types copy ≡ true) × Tidy pool levels copy }
+    ensures solid { (pool : PoolType) (levels : ℕ) (old copy : DynamicMessage)
+        → copy.descriptor ≡ old.descriptor → IsCopy (content_of old) (content_of copy)
+        → IsInOrder copy → Tidy pool levels old → Solid levels old → Solid levels copy }
 {}
 
 /// What is so with some levels below is so with more.
