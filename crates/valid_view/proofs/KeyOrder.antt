@@ -66,7 +66,7 @@ puts_ascend before after (v ∷ vs) up (between, (given, gives, put_so), rest) =
 -- ---- keys that are seen alike
 
 -- the order, by what is seen
-abbrev seen_order : Single → Single → Ordering
+abbrev pub seen_order : Single → Single → Ordering
 seen_order (truth a) (truth b) = bool_cmp a b
 seen_order (int32 y) (int32 z) = int_cmp y z
 seen_order (int64 y) (int64 z) = int_cmp y z
@@ -75,7 +75,7 @@ seen_order (uint64 m) (uint64 n) = nat_cmp m n
 seen_order (text xs) (text ys) = slice_cmp nat_cmp xs ys
 seen_order x y = nat_cmp (form_of x) (form_of y)
 
-compared : (a b : MapKey) → key_order a b ≡ seen_order (key_single a) (key_single b)
+pub compared : (a b : MapKey) → key_order a b ≡ seen_order (key_single a) (key_single b)
 compared (keys.Bool a) (keys.Bool b) = refl
 compared (keys.I32 a) (keys.I32 b) = refl
 compared (keys.I64 a) (keys.I64 b) = refl
