@@ -2,21 +2,20 @@
 -- whatever keys stand there.
 use Rattle.std.proofs.Common.{◌≡◌, inl, inr, ℕ, ℤ, suc, true, List, [], ◌∷◌, Option, Some, MatchOption, Ordering, Less, Equal, Greater, refl, sym, ap, ◌∙◌, subst}
 use Rattle.std.specs.BTreeMap.{insert_entry}
-use Rattle.std.specs.Cmp.Lexicographic.{slice_cmp}
-use Rattle.std.specs.Ordering.{bool_cmp, int_cmp, match_ordering, nat_cmp}
+use Rattle.std.specs.Ordering.{match_ordering}
 use Rattle.descriptor_records.specs.Content.{OptionContent}
 use Rattle.message_view.specs.Shaped.{Exclusive}
 use Rattle.message_view.specs.Sound.{IsSound}
 use Rattle.message_view.specs.Types.{entry_part, field_at, key_of, name_at, part_of, types_of}
 use Rattle.message_view.specs.Views.{content_view, view}
 use Rattle.message_view.proofs.Entries.{entry_of_map, map_held, part_is}
-use Rattle.message_view.proofs.Keys.{form_of, key_single}
+use Rattle.message_view.proofs.Keys.{key_single}
 use Rattle.message_view.proofs.Seen.{message_seen, pairs_view}
 use Rattle.option_setter.specs.OptionValues.{IsSaid}
 use Rattle.option_setter.specs.SetOptions.{PutsSaid, SetsLast}
 use Rattle.protobuf_model.specs.Meaning.{if_some, pairs}
 use Rattle.protobuf_model.specs.Types.{Field, Key, Part}
-use Rattle.protobuf_model.specs.Values.{Content, Message, Single, int32, int64, message, text, truth, uint32, uint64}
+use Rattle.protobuf_model.specs.Values.{Content, Message, Single, message}
 use Rattle.protobuf_model.proofs.Pieces.{pairs-if_some}
 use Rattle.reflect_extend.specs.Gives.{Entry, GivesIn}
 use Rattle.reflect_extend.specs.Puts.{PutsAll, with_given}
@@ -33,7 +32,6 @@ use Rattle.reflect_pool.specs.Shapes.{holds_map}
 use Rattle.reflect_pool.specs.declared.message.MessageDescriptor.{MessageDescriptor}
 use Rattle.reflect_scalar.specs.contracts.map_key.MapKeyOrd.TheImpl.{ghosts}
 use Rattle.reflect_scalar.specs.declared.map_key.MapKey.{MapKey}
-use Rattle.reflect_scalar.specs.declared.map_key.MapKey.TheVariants as keys
 use Rattle.reflect_tables.specs.Types.{FieldType, PoolType, type_of_field}
 use Rattle.reflect_tables.specs.Types as types
 use Rattle.text_model.specs.Value.{assign, entry_of}
@@ -45,28 +43,11 @@ use Rattle.text_view.proofs.Gives.{entry_given}
 use Rattle.text_view.proofs.Kept.{many_map}
 use Rattle.text_view.proofs.Owned.{OwnsTarget, pool_is, under_target}
 use Rattle.text_view.proofs.Puts.{message_is}
+use Rattle.valid_view.proofs.KeyOrder.{compared, seen_order}
 use Rattle.stored_options.proofs.Fine.{made_kinds, made_type}
 use Rattle.stored_options.proofs.MapShape.{entry_map, entry_sound, entry_whole, held_entries, target_map}
 
--- ---- the order of keys, by what is seen of them
-
-abbrev single_cmp : Single → Single → Ordering
-single_cmp (truth a) (truth b) = bool_cmp a b
-single_cmp (int32 y) (int32 z) = int_cmp y z
-single_cmp (int64 y) (int64 z) = int_cmp y z
-single_cmp (uint32 m) (uint32 n) = nat_cmp m n
-single_cmp (uint64 m) (uint64 n) = nat_cmp m n
-single_cmp (text xs) (text ys) = slice_cmp nat_cmp xs ys
-single_cmp x y = nat_cmp (form_of x) (form_of y)
-
-compared : (a b : MapKey) → ghosts.cmp a b ≡ single_cmp (key_single a) (key_single b)
-compared (keys.Bool a) (keys.Bool b) = refl
-compared (keys.I32 a) (keys.I32 b) = refl
-compared (keys.I64 a) (keys.I64 b) = refl
-compared (keys.U32 a) (keys.U32 b) = refl
-compared (keys.U64 a) (keys.U64 b) = refl
-compared (keys.String a) (keys.String b) = refl
-compared a b = refl
+-- ---- one entry
 
 -- entries that are seen alike are put into entries that are
 inserted_alike : (es fs : List Entry) (k l : MapKey) (u v : Value) → pairs_view es ≡ pairs_view fs → key_single k ≡ key_single l → content_view u ≡ content_view v
@@ -88,7 +69,7 @@ inserted_alike (e ∷ es) (f ∷ fs) k l u v is key value =
       at = ap (λ (p : Single × Content). p.0) both
 
       order : ghosts.cmp k e.0 ≡ ghosts.cmp l f.0
-      order = compared k e.0 ∙ (λ i. single_cmp (key i) (at i)) ∙ sym (compared l f.0)
+      order = compared k e.0 ∙ (λ i. seen_order (key i) (at i)) ∙ sym (compared l f.0)
 
       by : (o : Ordering) → pairs_view (insert_entry ghosts.cmp es k u) ≡ pairs_view (insert_entry ghosts.cmp fs l v)
           → pairs_view (match_ordering o ((k, u) ∷ e ∷ es) ((e.0, u) ∷ es) (e ∷ insert_entry ghosts.cmp es k u))
