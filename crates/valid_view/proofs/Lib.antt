@@ -15,7 +15,7 @@ mod FirmCopies
 pub mod Fitting
 mod Given
 mod Kept
-mod KeyOrder
+pub mod KeyOrder
 mod Leaving
 mod LeftOnes
 mod LeftValues
