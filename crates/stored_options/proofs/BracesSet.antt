@@ -1,4 +1,5 @@
--- What an option in braces holds is what its text gives, where the options behind it keep off.
+-- What an option in braces leaves along its name's numbers is what its text gives, and it stays
+-- where the options behind it keep off.
 use Rattle.std.proofs.Common.{◌≡◌, ℕ, zero, suc, ℤ, List, [], ◌∷◌, ◌++◌, Some, refl, sym, ap, ◌∙◌, subst}
 use Rattle.std.proofs.lemmas.Option.{same_Some}
 use Rattle.std.specs.List.{AllByRecursion}
@@ -7,9 +8,9 @@ use Rattle.protobuf_model.specs.Meaning.{if_any, items, message_in}
 use Rattle.protobuf_model.specs.Types.{Name, Frame, nested, Label, one, many, Field}
 use Rattle.protobuf_model.specs.Values.{Content, list, message, Held, content, Message, chain_of}
 use Rattle.protox_lex.specs.Class.{Text}
-use Rattle.stored_options.specs.Braces.{KeepsClear, KeepsOff, LeadsAlong, LeadsThrough, ListsAlong, ListsInto, held_along, held_inside}
+use Rattle.stored_options.specs.Braces.{KeepsOff, LeadsAlong, LeadsThrough, ListsInto, held_along, held_inside, with_messages}
 use Rattle.stored_options.specs.SetOptions.{Gets, LeadAlike, Leads, LeadsInto, Says, SetsAll, SetsLast, SetsParts}
-use Rattle.stored_options.proofs.BracesKept.{AreThrough, all_clear, all_kept, are_through, assign_here, one_type}
+use Rattle.stored_options.proofs.BracesKept.{AreThrough, all_kept, are_through, assign_here, one_type}
 use Rattle.text_model.specs.Schemas.{Schema, shape_of}
 use Rattle.text_model.specs.Texts.{Gives, IsText}
 use Rattle.text_model.specs.Value.{assign, is_set, of_message, wanted_in, wanted_of}
@@ -52,14 +53,10 @@ sets_among w leads t (x ∷ front) back o old m paths (then, path, rest, here, m
       later = r.later;
     }
 
--- a list with one more behind is set
-one_more : (cs : List Content) (c : Content) → if_any (cs ++ (c ∷ [])) ≡ content (list (chain_of (cs ++ (c ∷ []))))
-one_more [] c = refl
-one_more (d ∷ cs) c = refl
-
--- what a field of a list holds with a message behind
-abbrev pub longer : Held → Message → Held
-longer h x = content (list (chain_of (items h ++ (message x ∷ []))))
+-- a list with one message more is set
+one_more : (cs : List Content) (x : Message) → if_any (cs ++ (message x ∷ [])) ≡ content (list (chain_of (cs ++ (message x ∷ []))))
+one_more [] x = refl
+one_more (c ∷ cs) x = refl
 
 module _ (w : Schema) (leads : Leads) (alike : LeadAlike leads leads) (o : OptionContent) (z : Text) (has : o.aggregate_value ≡ Some z) (u : Name) where
   -- ---- what the text gives is what a field gets
@@ -94,14 +91,14 @@ module _ (w : Schema) (leads : Leads) (alike : LeadAlike leads leads) (o : Optio
       let gets : Gets (w.types t) n into.field one (message r.0) old new = r.2 in
       (r.0, r.1, ap (λ (m : Message). m n) gets.1 ∙ assign_here (w.types t) n (content (message r.0)) old)
 
-  got_listed : (t : Name) (part : NameContent) (n : ℕ) → ListsInto w leads t part n u → (old new : Message) (path : List ℤ) → SetsLast w leads o t part old new path
-      → (x : Message) × Gives w u z x × (new n ≡ longer (old n) x)
+  pub got_listed : (t : Name) (part : NameContent) (n : ℕ) → ListsInto w leads t part n u → (old new : Message) (path : List ℤ) → SetsLast w leads o t part old new path
+      → (x : Message) × Gives w u z x × (new n ≡ with_messages (old n) (x ∷ []))
   got_listed t part n into old new path sets =
       let r = got t part n into.field into.frame (many into.packed) into.led into.declared into.listed into.kind refl old new path sets in
       let gets : Gets (w.types t) n into.field (many into.packed) (message r.0) old new = r.2 in
       let h : Held = if_any (items (old n) ++ (message r.0 ∷ [])) in
       let is : assign (w.types t) n h old ≡ new = same_Some (assign (w.types t) n h old) new gets in
-      (r.0, r.1, ap (λ (m : Message). m n) (sym is) ∙ assign_here (w.types t) n h old ∙ one_more (items (old n)) (message r.0))
+      (r.0, r.1, ap (λ (m : Message). m n) (sym is) ∙ assign_here (w.types t) n h old ∙ one_more (items (old n)) r.0)
 
   -- ---- along the name
 
@@ -112,7 +109,7 @@ module _ (w : Schema) (leads : Leads) (alike : LeadAlike leads leads) (o : Optio
 
   module _ (ends : Leads) (result : Held → Message → Held)
       (last : (t : Name) (part : NameContent) (n : ℕ) → ends t part n → (old new : Message) (path : List ℤ) → SetsLast w leads o t part old new path → (x : Message) × Gives w u z x × (new n ≡ result (old n) x)) where
-    set_along : (levels : ℕ) (t : Name) (parts : List NameContent) (ns : List ℕ) → LeadsThrough w leads ends t parts ns → (old new : Message) (path : List ℤ) → SetsParts w leads o levels t parts old new path
+    pub set_along : (levels : ℕ) (t : Name) (parts : List NameContent) (ns : List ℕ) → LeadsThrough w leads ends t parts ns → (old new : Message) (path : List ℤ) → SetsParts w leads o levels t parts old new path
         → (x : Message) × Gives w u z x × (held_along ns new ≡ result (held_along ns old) x)
     set_along levels t [] ns along old new path sets = absurd along
     set_along levels t (part ∷ []) ns (n, ending, is) old new path sets =
@@ -133,22 +130,11 @@ module _ (w : Schema) (leads : Leads) (alike : LeadAlike leads leads) (o : Optio
 
 -- ---- behind all options
 
-module _ (w : Schema) (leads : Leads) (alike : LeadAlike leads leads) (t u : Name) (front back : List OptionContent) (o : OptionContent) (old m : Message) (paths : List (List ℤ)) (ns : List ℕ) (z : Text)
-    (sets : SetsAll w leads t (front ++ (o ∷ back)) old m paths) where
-  abbrev among : SetsAmong w leads t front back o old m
-  among = sets_among w leads t front back o old m paths sets
-
-  pub message_held : LeadsAlong w leads t o.name ns u → o.aggregate_value ≡ Some z → AllByRecursion (λ (x : OptionContent). KeepsOff w leads t ns x.name) back
-      → (x : Message) × Gives w u z x × (held_along ns m ≡ content (message x))
-  message_held along has off =
-      let r = set_along w leads alike o z has u (λ v part n. LeadsInto w leads v part n u) (λ h x. content (message x)) (got_one w leads alike o z has u) 100 t o.name ns along among.before among.next among.path among.set in
-      let way : AreThrough w t ns = are_through w leads (λ v part n. LeadsInto w leads v part n u) o.name t ns along in
-      (r.0, r.1, all_kept w leads ns t way back among.next m among.rest off (ap is_set r.2) among.later ∙ r.2)
-
-  pub list_held : ListsAlong w leads t o.name ns u → o.aggregate_value ≡ Some z → AllByRecursion (λ (x : OptionContent). KeepsClear w leads t ns x.name) front
-      → AllByRecursion (λ (x : OptionContent). KeepsOff w leads t ns x.name) back → (x : Message) × Gives w u z x × (held_along ns m ≡ longer (held_along ns old) x)
-  list_held along has clear off =
-      let r = set_along w leads alike o z has u (λ v part n. ListsInto w leads v part n u) longer (got_listed w leads alike o z has u) 100 t o.name ns along among.before among.next among.path among.set in
-      let way : AreThrough w t ns = are_through w leads (λ v part n. ListsInto w leads v part n u) o.name t ns along in
-      let before : held_along ns among.before ≡ held_along ns old = all_clear w leads ns t way front old among.before among.ways clear among.first in
-      (r.0, r.1, all_kept w leads ns t way back among.next m among.rest off (ap is_set r.2) among.later ∙ r.2 ∙ ap (λ h. longer h r.0) before)
+pub message_held : (w : Schema) (leads : Leads) → LeadAlike leads leads → (t u : Name) (front back : List OptionContent) (o : OptionContent) (old m : Message) (paths : List (List ℤ)) (ns : List ℕ) (z : Text)
+    → SetsAll w leads t (front ++ (o ∷ back)) old m paths → LeadsAlong w leads t o.name ns u → o.aggregate_value ≡ Some z → AllByRecursion (λ (x : OptionContent). KeepsOff w leads t ns x.name) back
+    → (x : Message) × Gives w u z x × (held_along ns m ≡ content (message x))
+message_held w leads alike t u front back o old m paths ns z sets along has off =
+    let among : SetsAmong w leads t front back o old m = sets_among w leads t front back o old m paths sets in
+    let r = set_along w leads alike o z has u (λ v part n. LeadsInto w leads v part n u) (λ h x. content (message x)) (got_one w leads alike o z has u) 100 t o.name ns along among.before among.next among.path among.set in
+    let way : AreThrough w t ns = are_through w leads (λ v part n. LeadsInto w leads v part n u) o.name t ns along in
+    (r.0, r.1, all_kept w leads ns t way back among.next m among.rest off (ap is_set r.2) among.later ∙ r.2)

@@ -29,6 +29,7 @@ pub mod Known
 pub mod OneMessage
 pub mod BracesKept
 pub mod BracesSet
+pub mod BracesListed
 pub mod Spared
 pub mod Reserved
 pub mod Said

@@ -1,9 +1,11 @@
--- Where the name of an option leads to a message, and which other names keep off what stands there.
-use Rattle.std.specs.Prelude.{◌≡◌, ◌⊎◌, ℕ, Bool, false, List, [], ◌∷◌, Option, Some}
-use Rattle.descriptor_records.specs.Content.{NameContent}
-use Rattle.protobuf_model.specs.Meaning.{message_in}
+-- Where the name of an option leads to a message or to a list of them, which other names keep off
+-- what stands there, and which options add to a list.
+use Rattle.std.specs.Prelude.{◌≡◌, ◌⊎◌, ℕ, Bool, true, false, List, [], ◌∷◌, ◌++◌, map, Option, Some}
+use Rattle.descriptor_records.specs.Content.{NameContent, OptionContent}
+use Rattle.protobuf_model.specs.Meaning.{items, message_in}
 use Rattle.protobuf_model.specs.Types.{Name, Frame, nested, many, Field, rival}
-use Rattle.protobuf_model.specs.Values.{message, Held, content, Message}
+use Rattle.protobuf_model.specs.Values.{list, message, Held, content, Message, chain_of}
+use Rattle.protox_lex.specs.Class.{Text}
 use Rattle.stored_options.specs.SetOptions.{Leads, LeadsInto}
 use Rattle.text_model.specs.Schemas.{Schema}
 
@@ -15,6 +17,11 @@ held_inside (n ∷ ns) h = held_inside ns (message_in h n)
 -- the first of them in this message
 abbrev pub held_along : List ℕ → Message → Held
 held_along ns m = held_inside ns (content (message m))
+
+-- what stands there with these messages behind in its list: with none, what stood there
+abbrev pub with_messages : Held → List Message → Held
+with_messages h [] = h
+with_messages h (x ∷ xs) = content (list (chain_of (items h ++ map message (x ∷ xs))))
 
 -- a part leads to a field that lists messages of this type
 pub record ListsInto (w : Schema) (leads : Leads) (t : Name) (part : NameContent) (n : ℕ)
@@ -70,7 +77,18 @@ LeadsAround w leads t (n ∷ q ∷ ns) (part ∷ next ∷ parts) =
     (u : Name) × LeadsInto w leads t part n u × LeadsAround w leads u (q ∷ ns) (next ∷ parts)
 LeadsAround w leads t ns parts = ⊥
 
--- they keep off it, and off the messages around it too
-abbrev pub KeepsClear : Schema → Leads → Name → List ℕ → List NameContent → Type 0
-KeepsClear w leads t ns parts =
-    KeepsOff w leads t ns parts × (LeadsAround w leads t ns parts → ⊥)
+-- they keep off it; and off the messages around it too, unless an option led there before: behind
+-- that one none can be set that leads around it
+abbrev pub KeepsClear : Schema → Leads → Name → List ℕ → (begun : Bool) → List NameContent → Type 0
+KeepsClear w leads t ns begun parts =
+    KeepsOff w leads t ns parts × (LeadsAround w leads t ns parts → begun ≡ true)
+
+-- each of the options leads along the numbers to a list of messages of the type, and is given with
+-- the next of these texts in braces, or keeps clear of it; `begun` says that one led there before
+abbrev pub ListsEach : Schema → Leads → Name → List ℕ → Name → (begun : Bool)
+    → List OptionContent → List Text → Type 0
+ListsEach w leads t ns u begun [] zs = zs ≡ []
+ListsEach w leads t ns u begun (o ∷ os) zs =
+    (KeepsClear w leads t ns begun o.name × ListsEach w leads t ns u begun os zs)
+    ⊎ ((z : Text) × (rest : List Text) × ListsAlong w leads t o.name ns u
+    × (o.aggregate_value ≡ Some z) × ListsEach w leads t ns u true os rest × (zs ≡ z ∷ rest))
