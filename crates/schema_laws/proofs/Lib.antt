@@ -72,5 +72,8 @@ pub mod PlacedReferences
 pub mod PlacedNumbers
 pub mod PlacedLinking
 pub mod Lying
+pub mod LyingLists
+pub mod SetBySource
 pub mod EncodedOptions
+pub mod ListedOptions
 pub mod SettledEntities
