@@ -15,7 +15,7 @@ use Rattle.message_view.proofs.Sound.{found_at}
 use Rattle.option_parts.specs.declared.option_error.OptionErrorKind.{OptionErrorKind}
 use Rattle.option_parts.specs.declared.option_error.OptionErrorKind.TheVariants as kinds
 use Rattle.option_setter.specs.OptionNames.{NamesTarget}
-use Rattle.option_setter.specs.SetOptions.{LeadsInto, LeadsNowhere, OfKind, PutsSaid, RefusesLast, RefusesParts, RefusesValue, SetsLast, SetsParts}
+use Rattle.option_setter.specs.SetOptions.{LeadsInto, LeadsNowhere, MayTake, OfKind, PutsSaid, RefusesLast, RefusesParts, RefusesValue, SetsLast, SetsParts}
 use Rattle.option_setter.specs.declared.option_setter.NameScope.{NameScope}
 use Rattle.protobuf_model.specs.Types.{Field, Name}
 use Rattle.protobuf_model.specs.Values.{Content}
@@ -143,10 +143,14 @@ module _ (a b : DynamicMessage) (twins : AreTwins a b) (x y : Target) (same : (t
           (kind_said o (content_view sets.put.2) a.descriptor sa x owns k kind
           (said_too o (content_view sets.put.2) (target_says none_decoded o b.descriptor sb y too sets.put.0 its sets.put.2 sets.put.3)))
 
+      -- so it is not refused for what the option says
+      not_unsaid : (e : OptionErrorKind) → MayTake x a × ((k : Kind) × OfKind x k × RefusesValue k o e) → ⊥
+      not_unsaid e (may, (k, of, refuses)) = not_said k of e refuses
+
       not_last : (e : OptionErrorKind) → RefusesLast x o a e → ⊥
       not_last (kinds.FloatOption name) floats = whole floats
       not_last (kinds.DuplicateOption name) (free, single, set) = set_already single set sets.put.4
-      not_last e (may, (k, of, refuses)) = not_said k of e refuses
+      not_last e refused = not_unsaid e refused
 
     -- ---- a part before the last
 

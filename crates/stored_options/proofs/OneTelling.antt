@@ -33,7 +33,7 @@ use Rattle.stored_options.proofs.SetTwice.{AreTwins, all_twice}
 use Rattle.stored_options.proofs.ShapeAlong.{all_shape}
 use Rattle.stored_options.proofs.StoredTwice.{not_told}
 use Rattle.stored_options.proofs.TwinPools.{AreTwinPools, twins_back}
-use Rattle.stored_options.specs.ToldAlike.{Sort, TellAlike, bad_type, contradicting, extends_another, forbidden, no_message, no_type, not_found, sort_of, takes_none, unread, unsuited, want_of_memory}
+use Rattle.stored_options.specs.ToldAlike.{Sort, TellAlike, bad_type, contradicting, extends_another, floating, forbidden, no_message, no_type, not_found, set_already, sort_of, unread, unsuited, want_of_memory}
 
 -- ---- the name that is told
 
@@ -43,7 +43,8 @@ name_of n not_found = Some n
 name_of n extends_another = Some n
 name_of n unsuited = Some n
 name_of n no_message = Some n
-name_of n takes_none = Some n
+name_of n floating = Some n
+name_of n set_already = Some n
 name_of n forbidden = Some n
 name_of n unread = None
 name_of n contradicting = None
